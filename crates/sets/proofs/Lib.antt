@@ -1,0 +1,11 @@
+-- The laws of sets and of rows of sets, by subject.
+pub mod Decide
+pub mod Bits
+pub mod Members
+pub mod Minimum
+pub mod Width
+pub mod Removal
+pub mod Size
+pub mod Joins
+pub mod Taking
+pub mod Once

@@ -1,0 +1,110 @@
+//! The commands of the program: their words, what they read and what they print.
+
+use std::io::{self, BufWriter, Read, Write};
+
+use crate::drawing::Drawing;
+use crate::fuzz::fuzz;
+use crate::records;
+use crate::sheet::sheet;
+use crate::solving::AMPLE_ROUNDS;
+
+const USAGE: &str =
+    "use: second sheet [ALLOWANCE] | batch | records COUNT SEED | fuzz COUNT SEED PROGRAM";
+
+/// Runs the command that the words name. False means that sheets differed; an
+/// error is one line for the user, and nothing but a failed write or a failed
+/// start of the other program comes after output has begun.
+pub fn run(
+    words: &[String],
+    input: &mut impl Read,
+    output: &mut impl Write,
+) -> Result<bool, String> {
+    let words: Vec<&str> = words.iter().map(String::as_str).collect();
+    let mut output = BufWriter::new(output);
+    let same = match words[..] {
+        ["sheet"] => print_sheet(AMPLE_ROUNDS, input, &mut output)?,
+        ["sheet", allowance] => {
+            let allowance = number(allowance, u64::from(u16::MAX))? as u16;
+            print_sheet(allowance, input, &mut output)?
+        }
+        ["batch"] => print_batch(input, &mut output)?,
+        ["records", count, seed] => {
+            let (count, seed) = (number(count, u64::MAX)?, number(seed, u64::MAX)?);
+            print_records(count, seed, &mut output)?
+        }
+        ["fuzz", count, seed, program] => {
+            let (count, seed) = (number(count, u64::MAX)?, number(seed, u64::MAX)?);
+            print_fuzz(count, seed, program, &mut output)?
+        }
+        _ => return Err(USAGE.to_string()),
+    };
+    output.flush().map_err(cannot_write)?;
+    Ok(same)
+}
+
+/// Prints the sheet of the text on the input.
+fn print_sheet(
+    allowance: u16,
+    input: &mut impl Read,
+    output: &mut impl Write,
+) -> Result<bool, String> {
+    let text = read_all(input)?;
+    let sheet = sheet(&text, allowance);
+    output.write_all(sheet.as_bytes()).map_err(cannot_write)?;
+    Ok(true)
+}
+
+/// Prints the sheets of all records on the input, if every record is good.
+fn print_batch(input: &mut impl Read, output: &mut impl Write) -> Result<bool, String> {
+    for record in records::parse(&read_all(input)?)? {
+        let sheet = sheet(&record.text, record.allowance);
+        output.write_all(sheet.as_bytes()).map_err(cannot_write)?;
+    }
+    Ok(true)
+}
+
+/// Prints so many random records of a seed.
+fn print_records(count: u64, seed: u64, output: &mut impl Write) -> Result<bool, String> {
+    let mut drawing = Drawing::new(seed);
+    for _ in 0..count {
+        if let Some(record) = drawing.next() {
+            records::write(&record, output).map_err(cannot_write)?;
+        }
+    }
+    Ok(true)
+}
+
+/// Prints how a program's sheets compare; true if all are the same.
+fn print_fuzz(
+    count: u64,
+    seed: u64,
+    program: &str,
+    output: &mut impl Write,
+) -> Result<bool, String> {
+    let tally = fuzz(count, seed, program, output)?;
+    writeln!(output, "{} same, {} different", tally.same, tally.different).map_err(cannot_write)?;
+    Ok(tally.different == 0)
+}
+
+/// The number that a word of decimal digits gives, if it is not over the most.
+fn number(word: &str, most: u64) -> Result<u64, String> {
+    let digits = word.bytes().all(|character| character.is_ascii_digit());
+    word.parse()
+        .ok()
+        .filter(|number| digits && *number <= most)
+        .ok_or(format!("{word:?} is not a number from 0 to {most}"))
+}
+
+/// All bytes of the input.
+fn read_all(input: &mut impl Read) -> Result<Vec<u8>, String> {
+    let mut bytes = Vec::new();
+    input
+        .read_to_end(&mut bytes)
+        .map_err(|error| format!("cannot read: {error}"))?;
+    Ok(bytes)
+}
+
+/// The error line after a failed write.
+fn cannot_write(error: io::Error) -> String {
+    format!("cannot write: {error}")
+}

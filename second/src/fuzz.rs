@@ -1,0 +1,156 @@
+//! Fuzzing: another program's sheets for random records, compared with the
+//! sheets that this one gives.
+
+use std::io::{self, Read, Write};
+use std::process::{Child, ChildStdin, ChildStdout, Command, Stdio};
+use std::thread;
+
+use crate::drawing::Drawing;
+use crate::records::{self, Record};
+use crate::sheet::{sheet, LAST_LINES, LONGEST_SHEET};
+
+/// How many records one run of the program gets.
+const RECORDS_PER_RUN: u64 = 2_000;
+/// How many differences are shown whole.
+const SHOWN_DIFFERENCES: u64 = 5;
+
+/// How many records got the same sheet from both programs, and how many not.
+#[derive(Clone, Copy, Debug, Default, PartialEq, Eq)]
+pub struct Tally {
+    pub same: u64,
+    pub different: u64,
+}
+
+/// Runs a program over so many records of a seed and shows the first
+/// differences; the error is a line for the user.
+pub fn fuzz(
+    count: u64,
+    seed: u64,
+    program: &str,
+    output: &mut impl Write,
+) -> Result<Tally, String> {
+    let mut drawing = Drawing::new(seed);
+    let mut tally = Tally::default();
+    while tally.same + tally.different < count {
+        let wanted = RECORDS_PER_RUN.min(count - tally.same - tally.different);
+        let records: Vec<Record> = drawing.by_ref().take(wanted as usize).collect();
+        let answer =
+            ask(program, &records).map_err(|error| format!("cannot run {program}: {error}"))?;
+        for (record, got) in records.iter().zip(split_sheets(&answer, records.len())) {
+            let expected = sheet(&record.text, record.allowance);
+            if got == expected.as_bytes() {
+                tally.same += 1;
+                continue;
+            }
+            tally.different += 1;
+            if tally.different <= SHOWN_DIFFERENCES {
+                let number = tally.same + tally.different;
+                show(number, record, &expected, got, output)
+                    .map_err(|error| format!("cannot write: {error}"))?;
+            }
+        }
+    }
+    Ok(tally)
+}
+
+/// What a program prints when it is fed the records. It may end early, and what
+/// it prints past the length of the longest possible answer is cut off. How it
+/// ends is not judged, only what it prints.
+fn ask(program: &str, records: &[Record]) -> io::Result<Vec<u8>> {
+    let mut child = Command::new(program)
+        .stdin(Stdio::piped())
+        .stdout(Stdio::piped())
+        .spawn()?;
+    let answer = match (child.stdin.take(), child.stdout.take()) {
+        (Some(input), Some(output)) => exchange(&mut child, input, output, records),
+        _ => Err(io::Error::other("no pipes to the program")),
+    };
+    child.wait()?;
+    answer
+}
+
+/// Feeds the records from a thread of its own while the answer is read, so that
+/// neither side waits for the other for ever.
+fn exchange(
+    child: &mut Child,
+    input: ChildStdin,
+    output: ChildStdout,
+    records: &[Record],
+) -> io::Result<Vec<u8>> {
+    let limit = records.len() * LONGEST_SHEET + 1;
+    let mut answer = Vec::new();
+    thread::scope(|scope| {
+        scope.spawn(move || feed(input, records));
+        let result = output.take(limit as u64).read_to_end(&mut answer);
+        if result.is_err() || answer.len() == limit {
+            child.kill()?;
+        }
+        result
+    })?;
+    Ok(answer)
+}
+
+/// Writes the records until all are written or the program takes no more; a
+/// program that ends early shows in its answer.
+fn feed(input: ChildStdin, records: &[Record]) {
+    let mut input = io::BufWriter::new(input);
+    for record in records {
+        if records::write(record, &mut input).is_err() {
+            return;
+        }
+    }
+}
+
+/// The answer cut into as many sheets as asked for: each ends with the first
+/// line that is a fixed phrase, and the last has all that is left.
+fn split_sheets(answer: &[u8], count: usize) -> Vec<&[u8]> {
+    let mut sheets = Vec::new();
+    let mut rest = answer;
+    for _ in 1..count {
+        let (sheet, after) = rest.split_at(first_sheet_length(rest));
+        sheets.push(sheet);
+        rest = after;
+    }
+    sheets.push(rest);
+    sheets
+}
+
+/// The length of the answer's first sheet, or of all if no sheet ends in it.
+fn first_sheet_length(answer: &[u8]) -> usize {
+    let mut length = 0;
+    for line in answer.split_inclusive(|byte| *byte == b'\n') {
+        length += line.len();
+        let last = LAST_LINES
+            .iter()
+            .any(|phrase| line.strip_suffix(b"\n") == Some(phrase.as_bytes()));
+        if last {
+            break;
+        }
+    }
+    length
+}
+
+/// Shows one difference whole.
+fn show(
+    number: u64,
+    record: &Record,
+    expected: &str,
+    got: &[u8],
+    output: &mut impl Write,
+) -> io::Result<()> {
+    let (length, allowance) = (record.text.len(), record.allowance);
+    writeln!(output, "record {number} differs")?;
+    writeln!(output, "text, {length} bytes, allowance {allowance}:")?;
+    writeln!(output, "{}", readable(&record.text))?;
+    writeln!(output, "expected sheet:\n{expected}")?;
+    writeln!(output, "got sheet:\n{}", readable(got))
+}
+
+/// The bytes as text: line feeds as they are, other odd bytes as escapes.
+fn readable(bytes: &[u8]) -> String {
+    let lines: Vec<String> = bytes
+        .split(|byte| *byte == b'\n')
+        .map(|line| line.escape_ascii().to_string())
+        .collect();
+    lines.join("\n")
+}

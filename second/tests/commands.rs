@@ -1,0 +1,223 @@
+//! The commands as a user runs them: what they print, their exit status and
+//! their errors.
+
+use std::fs;
+use std::io::Write;
+use std::os::unix::fs::PermissionsExt;
+use std::path::PathBuf;
+use std::process::{Command, Output, Stdio};
+use std::sync::Mutex;
+use std::thread;
+
+const SECOND: &str = env!("CARGO_BIN_EXE_second");
+const NIL: &[u8] = b"010101000000\n10\n";
+const NIL_SHEET: &str = "2f0001\n3001\nflow clear\n";
+
+/// Held while a process starts or a script is written: a script that a starting
+/// process still holds open for writing can't be run.
+static STARTING: Mutex<()> = Mutex::new(());
+
+/// Runs the program with the words and the input.
+fn second(words: &[&str], input: &[u8]) -> Output {
+    let starting = STARTING.lock().expect("no test fails while starting");
+    let mut child = Command::new(SECOND)
+        .args(words)
+        .stdin(Stdio::piped())
+        .stdout(Stdio::piped())
+        .stderr(Stdio::piped())
+        .spawn()
+        .expect("the program starts");
+    drop(starting);
+    let mut stdin = child.stdin.take().expect("a pipe");
+    let input = input.to_vec();
+    // A program that ends without reading is judged by its output.
+    let feeding = thread::spawn(move || stdin.write_all(&input).is_ok());
+    let output = child.wait_with_output().expect("the program ends");
+    feeding.join().expect("the input is fed");
+    output
+}
+
+/// Checks what a good command prints.
+#[track_caller]
+fn prints(words: &[&str], input: &[u8], expected: &str) {
+    let output = second(words, input);
+    assert_eq!(String::from_utf8_lossy(&output.stdout), expected);
+    assert_eq!(String::from_utf8_lossy(&output.stderr), "");
+    assert_eq!(output.status.code(), Some(0));
+}
+
+/// Checks that a command gives one error line, nothing else and status 2.
+#[track_caller]
+fn fails(words: &[&str], input: &[u8]) {
+    let output = second(words, input);
+    let errors = String::from_utf8_lossy(&output.stderr).into_owned();
+    assert_eq!(output.stdout, b"", "{words:?}");
+    assert_eq!(errors.lines().count(), 1, "{words:?}: {errors}");
+    assert!(errors.starts_with("second: "), "{words:?}: {errors}");
+    assert_eq!(output.status.code(), Some(2), "{words:?}");
+}
+
+/// Writes a script that can be run; `SECOND` in its body stands for the program.
+fn script(name: &str, body: &str) -> String {
+    let path = PathBuf::from(env!("CARGO_TARGET_TMPDIR")).join(name);
+    let starting = STARTING.lock().expect("no test fails while starting");
+    let body = body.replace("SECOND", &format!("'{SECOND}'"));
+    fs::write(&path, format!("#!/bin/sh\n{body}\n")).expect("the script is written");
+    fs::set_permissions(&path, fs::Permissions::from_mode(0o755)).expect("it can be run");
+    drop(starting);
+    path.to_str().expect("a plain path").to_string()
+}
+
+/// The last line that a fuzz run prints, its exit status and all it prints.
+fn fuzz(count: &str, program: &str) -> (String, Option<i32>, String) {
+    let output = second(&["fuzz", count, "7", program], b"");
+    let printed = String::from_utf8_lossy(&output.stdout).into_owned();
+    let last = printed.lines().last().unwrap_or("").to_string();
+    (last, output.status.code(), printed)
+}
+
+#[test]
+fn sheet_prints_the_sheet() {
+    prints(&["sheet"], NIL, NIL_SHEET);
+    prints(&["sheet", "1"], NIL, NIL_SHEET);
+    prints(&["sheet", "65535"], NIL, NIL_SHEET);
+    prints(&["sheet", "0"], NIL, "3f0e0000\nrefused\n");
+    prints(&["sheet"], b"", "3f010000\nrefused\n");
+    prints(&["sheet"], &vec![0; 100_000], "3f010000\nrefused\n");
+}
+
+#[test]
+fn batch_prints_the_sheets_in_order() {
+    let first = [b"0000001000004401\n", NIL].concat();
+    let second = [b"0000001000000000\n", NIL].concat();
+    let third = b"0000000000000001\n".to_vec();
+    let fourth = [b"000000010000ffff\n".as_slice(), b"z"].concat();
+    let all = [first, second, third, fourth].concat();
+    let sheets = [
+        NIL_SHEET,
+        "3f0e0000\nrefused\n",
+        "3f010000\nrefused\n",
+        "3f020001\nrefused\n",
+    ];
+    prints(&["batch"], &all, &sheets.concat());
+    prints(&["batch"], b"", "");
+    let longest = [b"0001000000000001\n".to_vec(), vec![b'0'; 65_536]].concat();
+    prints(&["batch"], &longest, "3f010000\nrefused\n");
+}
+
+#[test]
+fn batch_refuses_bad_records_before_it_prints() {
+    let good = [b"0000001000004401\n", NIL].concat();
+    let bad: [&[u8]; 11] = [
+        b"0",
+        b"0000000000000000",
+        b"0000000000000000 ",
+        b"0000000000000000\r\n",
+        b"0000000A00000000\n0000000000",
+        b"000000000000000g\n",
+        b"+000000000000000\n",
+        b"0001000100000000\n",
+        b"ffffffff00000000\n",
+        b"0000000000010000\n",
+        b"0000000200000000\n0",
+    ];
+    for record in bad {
+        fails(&["batch"], record);
+        fails(&["batch"], &[good.as_slice(), record].concat());
+    }
+}
+
+#[test]
+fn records_are_the_same_for_the_same_seed() {
+    let first = second(&["records", "50", "9"], b"");
+    assert_eq!(first.status.code(), Some(0));
+    assert_eq!(first.stdout, second(&["records", "50", "9"], b"").stdout);
+    assert_ne!(first.stdout, second(&["records", "50", "8"], b"").stdout);
+    let more = second(&["records", "60", "9"], b"").stdout;
+    assert!(more.starts_with(&first.stdout));
+    prints(&["records", "0", "9"], b"", "");
+}
+
+#[test]
+fn batch_answers_every_record_that_records_writes() {
+    let records = second(&["records", "500", "4"], b"").stdout;
+    let answer = second(&["batch"], &records);
+    assert_eq!(answer.status.code(), Some(0));
+    let printed = String::from_utf8_lossy(&answer.stdout).into_owned();
+    let phrases = ["flow clear", "flow breach", "refused"];
+    let sheets = printed.lines().filter(|line| phrases.contains(line));
+    assert_eq!(sheets.count(), 500);
+}
+
+#[test]
+fn bad_words_are_refused() {
+    let bad: [&[&str]; 19] = [
+        &[],
+        &[""],
+        &["sheets"],
+        &["sheet", ""],
+        &["sheet", "x"],
+        &["sheet", "-1"],
+        &["sheet", "+1"],
+        &["sheet", "65536"],
+        &["sheet", "1", "2"],
+        &["batch", "1"],
+        &["records"],
+        &["records", "1"],
+        &["records", "1", "x"],
+        &["records", "1", "18446744073709551616"],
+        &["records", "1", "2", "3"],
+        &["fuzz", "1", "2"],
+        &["fuzz", "x", "2", "true"],
+        &["fuzz", "1", "x", "true"],
+        &["fuzz", "1", "2", "true", "false"],
+    ];
+    for words in bad {
+        fails(words, NIL);
+    }
+    fails(&["fuzz", "1", "2", "no-such-program-anywhere"], b"");
+}
+
+#[test]
+fn fuzz_agrees_with_a_right_program() {
+    let right = script("right", "exec SECOND batch");
+    let (last, status, printed) = fuzz("4500", &right);
+    assert_eq!(last, "4500 same, 0 different");
+    assert_eq!(printed.lines().count(), 1);
+    assert_eq!(status, Some(0));
+}
+
+#[test]
+fn fuzz_shows_what_a_wrong_program_gives() {
+    let wrong = script("wrong", "SECOND batch | sed 's/^2f0001$/2f0002/'");
+    let (last, status, printed) = fuzz("200", &wrong);
+    assert!(!last.ends_with(" 0 different"), "{last}");
+    assert!(printed.contains("expected sheet:\n2f0001\n"));
+    assert!(printed.contains("got sheet:\n2f0002\n"));
+    assert_eq!(printed.matches(" differs\n").count(), 5);
+    assert_eq!(status, Some(1));
+}
+
+#[test]
+fn fuzz_copes_with_programs_that_break_off_or_print_nonsense() {
+    let silent = script("silent", "exit 3");
+    let (last, status, _) = fuzz("2500", &silent);
+    assert_eq!(last, "0 same, 2500 different");
+    assert_eq!(status, Some(1));
+
+    let short = script("short", "SECOND batch | sed '/^refused$/q'");
+    let (last, status, _) = fuzz("100", &short);
+    assert!(!last.ends_with(" 0 different"), "{last}");
+    assert!(!last.starts_with("0 same"), "{last}");
+    assert_eq!(status, Some(1));
+
+    let chatty = script("chatty", "SECOND batch; echo more");
+    let (last, status, _) = fuzz("100", &chatty);
+    assert_eq!(last, "99 same, 1 different");
+    assert_eq!(status, Some(1));
+
+    let endless = script("endless", "exec yes");
+    let (last, status, _) = fuzz("20", &endless);
+    assert_eq!(last, "0 same, 20 different");
+    assert_eq!(status, Some(1));
+}
