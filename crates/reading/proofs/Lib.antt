@@ -1,0 +1,11 @@
+pub mod Tests
+pub mod Lines
+pub mod Scopes
+pub mod Table
+pub mod Growing
+pub mod Naming
+pub mod RulesWithin
+pub mod TreeWithin
+pub mod Promise
+pub mod Padding
+pub mod Whole

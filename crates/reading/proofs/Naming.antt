@@ -1,0 +1,97 @@
+-- Free names read from a place, as the code holds them: what the next line says, then the rest, stored behind it and given inside it.
+-- Assumes nothing.
+use Prim.Native.Nat.{ℕ, zero, suc, _+_, _-_, _≤_, _<_}
+use mathlib.Core.Path.{_≡_, refl, sym, ap, _∙_}
+use mathlib.Core.Bool.{Bool, true, false}
+use mathlib.Core.List.{List, [], _∷_}
+use native.Mathlib.Numerals.{add-one, sub-one}
+use native.Mathlib.Omega.{arith}
+use lib.ListN.{length, set}
+use lib.Seq.{sets}
+use Rattle.reading.specs.declared.FreeName.{FreeName}
+use Rattle.reading.specs.declared.Head.{Head}
+use Rattle.reading.specs.declared.Marker.the-variants.{Channel}
+use Rattle.reading.specs.declared.Refusal.{Refusal}
+use Rattle.reading.specs.declared.names.Names.{Names}
+use Rattle.reading.specs.declared.rules.Entry.{Entry}
+use Rattle.reading.specs.Frames.{Judged, faulty, fine, andOn, freeNames, frameIn}
+use Rattle.reading.specs.Scope.{giving}
+use Rattle.reading.specs.Rules.{nameIn}
+use Rattle.reading.specs.Plan.{Outcome, refused, read, Place, onward, refuse, andThen, Named, before, nextName, readNames}
+use Rattle.reading.specs.Working.{restAt, endAt, entryOf, meaningIn, Stands, placeAt, Past, Gathered, Gathers}
+use Rattle.reading.proofs.Table.{Framing, framing}
+use Rattle.reading.proofs.Growing.{onward-past}
+
+entry-faulty : (j : Judged FreeName) (w : ℕ) → entryOf j ≡ Entry.Faulty w → j ≡ faulty w
+entry-faulty (faulty n) w e = cc
+entry-faulty (fine n) w e = let z : _≡_ {A = ℕ} 0 1 = cc in absurd (omega arith)
+
+entry-found : (j : Judged FreeName) (name : FreeName) → entryOf j ≡ Entry.Found name → j ≡ fine name
+entry-found (faulty n) name e = let z : _≡_ {A = ℕ} 0 1 = cc in absurd (omega arith)
+entry-found (fine n) name e = cc
+
+-- a free name was found: its line is whole
+whole : (s : List ℕ) (at : ℕ) (h : Head) (least : ℕ) (name : FreeName) → nextName h least (restAt s at) ≡ fine name → (at < length s) × (endAt s at < length s)
+whole s at h least name q = go (frameIn freeNames (restAt s at)) refl q
+  where
+    go : (j : Judged (List ℕ)) → frameIn freeNames (restAt s at) ≡ j → andOn j (nameIn h least) ≡ fine name → (at < length s) × (endAt s at < length s)
+    go (faulty n) e q = let z : _≡_ {A = ℕ} 0 1 = cc in absurd (omega arith)
+    go (fine bytes) e q = let f = framing s freeNames at bytes e in (f .here, f .inside)
+
+-- ---- the names, by what the next line says
+
+module _ (h : Head) (least : ℕ) (place : Place) where
+  names-faulty : (many w : ℕ) → (many ≡ 0 → ⊥) → nextName h least (place .left) ≡ faulty w → readNames many h least place ≡ refuse place w
+  unfolding readNames
+  names-faulty zero w n e = absurd (n refl)
+  names-faulty (suc many) w n e = rw e
+
+  names-fine : (many : ℕ) (name : FreeName) → (many ≡ 0 → ⊥) → nextName h least (place .left) ≡ fine name
+      → readNames many h least place ≡ andThen (readNames (many - 1) h (name .name + 1) (onward place)) λ named. read (before name named)
+  unfolding readNames
+  names-fine zero name n e = absurd (n refl)
+  names-fine (suc many) name n e = rw (e, sub-one)
+
+-- ---- what `read_names` returns: `r` is the result, and the rest what its calls gave
+
+module _ (s : List ℕ) (h : Head) (many least : ℕ) (st r : Names) where
+  pub names-none : many ≡ 0 → Stands s (st .cursor) → st .good ≡ true → Gathers s st (readNames many h least (placeAt s (st .cursor))) st
+  unfolding readNames
+  names-none e stands good = rw e (record { good = good; stands = stands; place = refl; names = refl; scope = refl })
+
+  module _ (more : many ≡ 0 → ⊥) (k : Entry) (said : k ≡ entryOf (nextName h least (restAt s (st .cursor .at)))) where
+    next-name : Judged FreeName
+    next-name = nextName h least (restAt s (st .cursor .at))
+
+    pub names-refused : (w : ℕ) (f : Refusal) → k ≡ Entry.Faulty w → f ≡ record { number = w; line = st .cursor .line }
+        → (r .good ≡ false) × (r .refusal ≡ f) → Gathers s st (readNames many h least (placeAt s (st .cursor))) r
+    unfolding next-name
+    names-refused w f bad made got =
+        rw (names-faulty h least (placeAt s (st .cursor)) many w more (entry-faulty next-name w (sym said ∙ bad))) (got .0, got .1 ∙ made)
+
+    module _ (name : FreeName) (good : k ≡ Entry.Found name) where
+      found : nextName h least (restAt s (st .cursor .at)) ≡ fine name
+      unfolding next-name
+      found = entry-found next-name name (sym said ∙ good)
+
+      pub name-whole : (st .cursor .at < length s) × (endAt s (st .cursor .at) < length s)
+      name-whole = whole s (st .cursor .at) h least name found
+
+      pub names-on : (next : Names) → Past s (st .cursor) (next .cursor) → next .count ≡ st .count + 1
+          → next .names ≡ set (st .names) (st .count) name
+          → meaningIn (next .scope) ≡ giving (name .name) (Channel (name .channel)) (meaningIn (st .scope))
+          → Gathers s next (readNames (many - 1) h (name .name + 1) (placeAt s (next .cursor))) r
+          → Gathers s st (readNames many h least (placeAt s (st .cursor))) r
+      names-on next past counted stored given g =
+          rw (names-fine h least (placeAt s (st .cursor)) many name more found, onward-past s (st .cursor) (next .cursor) (name-whole .0) past)
+          (go (readNames (many - 1) h (name .name + 1) (placeAt s (next .cursor))) g)
+        where
+          go : (o : Outcome Named) → Gathers s next o r → Gathers s st (andThen o λ named. read (before name named)) r
+          go (refused f) w = w
+          go (read n) w = record {
+            good = w .good;
+            stands = w .stands;
+            place = w .place;
+            names = w .names ∙ rw (stored, counted, add-one);
+            scope = w .scope ∙ rw given;
+          }

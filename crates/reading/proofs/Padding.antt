@@ -1,0 +1,27 @@
+-- Unused places: a blank array with a list stored from its start is that list, padded. Assumes nothing.
+use Prim.Native.Nat.{ℕ, zero, suc, _+_, _-_, _≤_}
+use mathlib.Core.Path.{_≡_, refl, ap, _∙_}
+use mathlib.Core.List.{List, _++_}
+use native.Mathlib.Omega.{arith}
+use lib.ListN.{length, drop, replicate, length-replicate}
+use lib.Seq.{sets, sets-eq}
+use Rattle.reading.specs.Plan.{padded}
+
+drop-replicate : {A : Type 0} (k n : ℕ) (d : A) → drop k (replicate n d) ≡ replicate (n - k) d
+drop-replicate zero n d =
+    let e : n ≡ n - 0 = omega arith in
+    ap (λ (m : ℕ). replicate m d) e
+drop-replicate (suc k) zero d =
+    let e : 0 ≡ 0 - suc k = omega arith in
+    ap (λ (m : ℕ). replicate m d) e
+drop-replicate (suc k) (suc n) d =
+    let e : n - k ≡ suc n - suc k = omega arith in
+    drop-replicate k n d ∙ ap (λ (m : ℕ). replicate m d) e
+
+pub pad : {A : Type 0} (n : ℕ) (d : A) (xs : List A) → length xs ≤ n → sets (replicate n d) 0 xs ≡ padded n d xs
+unfolding padded
+pad n d xs h =
+    let room : 0 + length xs ≤ length (replicate n d) = rw length-replicate (omega arith) in
+    let here : 0 + length xs ≡ length xs = omega arith in
+    sets-eq xs (replicate n d) 0 room
+    ∙ ap (λ (l : List _). xs ++ l) (ap (λ (k : ℕ). drop k (replicate n d)) here ∙ drop-replicate (length xs) n d)

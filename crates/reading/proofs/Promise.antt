@@ -1,0 +1,91 @@
+-- The promise of reading, for every text: `kept`. Assumes nothing.
+use Prim.Native.Nat.{ℕ, zero, suc, _+_, _^_, _≤_, _<_}
+use mathlib.Core.Path.{_≡_, refl, ap, _∙_}
+use mathlib.Core.Bool.{Bool, true, false, cond, _||_}
+use mathlib.Core.List.{List, [], _∷_}
+use native.Mathlib.Omega.{arith}
+use lib.Dec.{ltb, eqb, lit<}
+use lib.ListN.{length}
+use borrow.Author.Tests.{ltb-false}
+use Rattle.reading.specs.declared.Head.{Head}
+use Rattle.reading.specs.declared.Marker.{Marker}
+use Rattle.reading.specs.declared.scope.Meaning.the-variants.{Nothing, Is}
+use Rattle.reading.specs.Limits.{longest, mostDepth}
+use Rattle.reading.specs.Text.{Line, lineFeed, inFront, linesOf}
+use Rattle.reading.specs.Frames.{Judged, faulty, fine, byte, firstLine, frameIn}
+use Rattle.reading.specs.Scope.{noNames, naming}
+use Rattle.reading.specs.Rules.{headIn}
+use Rattle.reading.specs.Plan.{Outcome, refused, read, Place, onward, readNames, Grown, readTree, Plan, closed, firstHead, afterHead, readPlan, planIn}
+use Rattle.reading.specs.Promise.{HeadWithin, NamesWithin, givenBy, PlanWithin, Kept}
+use Rattle.reading.proofs.RulesWithin.{Judges, judges-on, some-line, head-within, ScopeWithin}
+use Rattle.reading.proofs.TreeWithin.{InOrder, Numbered, Ends, ends-then, ends-judged, numbered-on, names-within, naming-within, TreeGood, tree-within}
+
+-- a text has no more lines than characters
+few-lines : (s : List ℕ) → length (linesOf s) ≤ length s
+unfolding linesOf
+few-lines [] = omega arith
+few-lines (c ∷ s) = go (eqb c lineFeed) (linesOf s) (few-lines s)
+  where
+    go : (b : Bool) (ls : List Line) → length ls ≤ length s → length (inFront b c ls) ≤ suc (length s)
+    go true ls h = omega arith
+    go false [] h = omega arith
+    go false (l ∷ ls) h = omega arith
+
+no-scope : (h : Head) → ScopeWithin h [] noNames
+no-scope h name m e = let z : _≡_ {A = ℕ} 0 1 = cc in absurd (omega arith)
+
+-- nothing follows the tree
+closed-within : (m : ℕ) (place : Place) (left : List Line) (p : Plan) → Numbered m place → PlanWithin p → Ends m PlanWithin (closed place left p)
+closed-within m place [] p numbered w = w
+closed-within m place (l ∷ ls) p numbered w = record { least = omega arith; most = omega arith; line = omega arith }
+
+pub after-within : (m : ℕ) (h : Head) (place : Place) → HeadWithin h → Numbered m place → Ends m PlanWithin (afterHead h place)
+unfolding afterHead
+after-within m h place within numbered =
+    ends-then m (λ n. (length (n .names) ≡ h .names) × NamesWithin h 0 (n .names) × Numbered m (n .after)) PlanWithin (readNames (h .names) h 0 place) _
+    (names-within m h (h .names) 0 place numbered)
+    (λ n w. ends-then m (TreeGood m h (givenBy (n .names) []) mostDepth 0) PlanWithin
+    (readTree mostDepth h (naming noNames (n .names)) 0 (n .after)) _
+    (tree-within m h (givenBy (n .names) []) mostDepth (naming noNames (n .names)) 0 (n .after) (naming-within h [] noNames 0 (n .names) (no-scope h) (w .1)) (w .2))
+    (λ g t. closed-within m (g .after) (g .after .left) (record { head = h; names = n .names; tree = g .tree }) (t .numbered)
+    (record {
+      head = within;
+      counted = w .0;
+      names = w .1;
+      nodes = t .nodes;
+      few = let room = t .few in omega arith;
+      shallow = t .shallow;
+      scoped = t .scoped;
+    })))
+
+pub first-within : (left : List Line) → Judges (λ h. HeadWithin h × (0 < length left)) (firstHead left)
+first-within left =
+    judges-on (λ (frame : List ℕ). 0 < length left) (λ h. HeadWithin h × (0 < length left)) (frameIn firstLine left) headIn (some-line firstLine left)
+    (λ frame some. both some (headIn frame) (head-within (byte 1 frame) _))
+  where
+    both : 0 < length left → (j : Judged Head) → Judges HeadWithin j → Judges (λ h. HeadWithin h × (0 < length left)) j
+    both some (faulty n) w = w
+    both some (fine h) w = (w, some)
+
+plan-within : (m : ℕ) (place : Place) → Numbered m place → Ends m PlanWithin (readPlan place)
+unfolding readPlan
+plan-within m place numbered =
+    ends-judged m (λ h. HeadWithin h × (0 < length (place .left))) PlanWithin place (firstHead (place .left)) _ numbered (first-within (place .left))
+    (λ h w. after-within m h (onward place) (w .0) (numbered-on m place (w .1) numbered))
+
+-- every text: a refusal has a number from 1 to 13 and a line that fits two bytes, and a plan is within the limits
+pub kept : (s : List ℕ) → Kept (planIn s)
+unfolding planIn
+kept s = go (eqb (length s) 0) (ltb longest (length s)) refl
+  where
+    order : (o : Outcome Plan) → length s ≤ longest → Ends (1 + length s) PlanWithin o → Kept o
+    order (refused f) short w = (w .least, w .most, let line = w .line in omega arith)
+    order (read p) short w = w
+
+    go : (a b : Bool) → ltb longest (length s) ≡ b
+        → Kept (cond (a || b) (refused (record { number = 1; line = 0 })) (readPlan (record { line = 1; left = linesOf s })))
+    go true b e = (omega arith, omega arith, lit< tt)
+    go false true e = (omega arith, omega arith, lit< tt)
+    go false false e =
+        order (readPlan (record { line = 1; left = linesOf s })) (ltb-false longest (length s) e)
+        (plan-within (1 + length s) (record { line = 1; left = linesOf s }) (omega (arith, few-lines s)))

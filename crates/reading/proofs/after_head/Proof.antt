@@ -1,0 +1,118 @@
+-- `after_head`: each return is one law over what the sections gave. Assumes nothing.
+use mathlib.Core.Path.{_≡_, sym, ap, _∙_, subst}
+use native.Mathlib.Omega.{arith}
+use borrow.Author.Needs.{needs}
+use borrow.Author.Tests.{not-true, not-false}
+use Rattle.reading.specs.Plan.{readingOf, refused}
+use Rattle.reading.specs.Working.{Stands}
+use Rattle.reading.proofs.Whole.{after-names, names-stand, after-tree, after-more, after-all}
+use Rattle.reading.proofs.after_head.Statement.{statement}
+use Rattle.reading.proofs.after_head.Tie as tie
+
+cast-read-names : tie.Need-cast-read-names
+cast-read-names c = search needs
+
+fresh-names-requires : tie.Need-fresh-names-requires
+fresh-names-requires c κs = search needs
+
+read-names-requires : tie.Need-read-names-requires
+read-names-requires c κs =
+    let begun = c .before .before .before in
+    let fresh = c .fresh-names .ensures in
+    let none = fresh .none in
+    let room = begun .pre .0 .names in
+    (subst (Stands (begun .args .text .now)) (sym (fresh .there)) (begun .pre .1), omega arith, fresh .good)
+
+refused-requires : tie.Need-refused-requires
+refused-requires c κs = search needs
+
+returns : tie.Need-returns
+returns c =
+    let named = c .before .before .before in
+    let begun = named .before .before .before .before in
+    let s = begun .args .text .now in
+    let h = begun .args .head in
+    let cursor = begun .args .cursor in
+    c .refused .ensures ∙ ap readingOf (after-names s h cursor (begun .pre .0) _ _ (named .before .fresh-names .ensures) (named .read-names .ensures) (not-true _ (c .before .if1 .taken)))
+
+fresh-state-requires : tie.Need-fresh-state-requires
+fresh-state-requires c κs = search needs
+
+read-node-requires : tie.Need-read-node-requires
+read-node-requires c κs =
+    let named = c .before .before .before .before in
+    let begun = named .before .before .before .before in
+    let s = begun .args .text .now in
+    let h = begun .args .head in
+    let cursor = begun .args .cursor in
+    subst (Stands s) (sym (c .fresh-state .ensures .there)) (names-stand s h cursor (begun .pre .0) _ _ (named .before .fresh-names .ensures) (named .read-names .ensures) (not-false _ (c .before .before .if1 .left)))
+
+refused-requires-2 : tie.Need-refused-requires-2
+refused-requires-2 c κs = search needs
+
+returns-2 : tie.Need-returns-2
+returns-2 c =
+    let grown = c .before .before .before in
+    let named = grown .before .before .before .before .before in
+    let begun = named .before .before .before .before in
+    let s = begun .args .text .now in
+    let h = begun .args .head in
+    let cursor = begun .args .cursor in
+    let good = not-false _ (grown .before .before .before .if1 .left) in
+    let law = after-tree s h cursor (begun .pre .0) _ _ (named .before .fresh-names .ensures) (named .read-names .ensures) good _ _ (grown .before .fresh-state .ensures) (grown .read-node .ensures) (not-true _ (c .before .if2 .taken)) in
+    c .refused2 .ensures ∙ ap readingOf law
+
+refuse-requires : tie.Need-refuse-requires
+refuse-requires c κs = search needs
+
+refused-requires-3 : tie.Need-refused-requires-3
+refused-requires-3 c κs = search needs
+
+returns-3 : tie.Need-returns-3
+returns-3 c =
+    let grown = c .before .before .before .before .before .before .before in
+    let named = grown .before .before .before .before .before in
+    let begun = named .before .before .before .before in
+    let s = begun .args .text .now in
+    let h = begun .args .head in
+    let cursor = begun .args .cursor in
+    let good = not-false _ (grown .before .before .before .if1 .left) in
+    let whole = not-false _ (c .before .before .before .before .before .if2 .left) in
+    let law = after-more s h cursor (begun .pre .0) _ _ (named .before .fresh-names .ensures) (named .read-names .ensures) good _ _ (grown .before .fresh-state .ensures) (grown .read-node .ensures) whole (c .before .before .if3 .taken) in
+    c .refused3 .ensures ∙ ap readingOf (ap refused (c .before .refuse .ensures) ∙ law)
+
+no-refusal-requires : tie.Need-no-refusal-requires
+no-refusal-requires c κs = search needs
+
+returns-4 : tie.Need-returns-4
+returns-4 c =
+    let grown = c .before .before .before .before .before .before .before .before in
+    let named = grown .before .before .before .before .before in
+    let begun = named .before .before .before .before in
+    let s = begun .args .text .now in
+    let h = begun .args .head in
+    let cursor = begun .args .cursor in
+    let good = not-false _ (grown .before .before .before .if1 .left) in
+    let whole = not-false _ (c .before .before .before .before .before .before .if2 .left) in
+    let none = c .no-refusal .ensures in
+    after-all s h cursor (begun .pre .0) _ _ (named .before .fresh-names .ensures) (named .read-names .ensures) good _ _ (grown .before .fresh-state .ensures) (grown .read-node .ensures) whole _ (c .before .before .before .if3 .left)
+    (λ i. record { refusal = none i; head = h; names = named .read-names .result .names; count = grown .read-node .result .count; nodes = grown .read-node .result .nodes })
+
+pub after-head-spec : {M : Type 1} → statement M
+after-head-spec =
+    tie.close
+    (tie.spec
+    cast-read-names
+    fresh-names-requires
+    read-names-requires
+    refused-requires
+    returns
+    fresh-state-requires
+    read-node-requires
+    refused-requires-2
+    returns-2
+    refuse-requires
+    refused-requires-3
+    returns-3
+    no-refusal-requires
+    returns-4)

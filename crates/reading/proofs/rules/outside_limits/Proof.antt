@@ -1,0 +1,28 @@
+-- `outside_limits`: each return is the definition's answer under the tests that led to it. Assumes nothing.
+use Rattle.reading.specs.Rules.{outsideLimits}
+use Rattle.reading.proofs.Tests.{tests}
+use Rattle.reading.proofs.rules.outside_limits.Statement.{statement}
+use Rattle.reading.proofs.rules.outside_limits.Tie as tie
+
+returns : tie.Need-returns
+unfolding outsideLimits
+returns c = search tests
+
+returns-2 : tie.Need-returns-2
+unfolding outsideLimits
+returns-2 c = search tests
+
+returns-3 : tie.Need-returns-3
+unfolding outsideLimits
+returns-3 c = search tests
+
+returns-4 : tie.Need-returns-4
+unfolding outsideLimits
+returns-4 c = search tests
+
+returns-5 : tie.Need-returns-5
+unfolding outsideLimits
+returns-5 c = search tests
+
+pub outside-limits-spec : {M : Type 1} → statement M
+outside-limits-spec = tie.close (tie.spec returns returns-2 returns-3 returns-4 returns-5)

@@ -1,0 +1,184 @@
+-- Document 01, 'Plan text' and 'Refusal numbers': from a text to a plan or its one refusal, with the order in which refusals are judged.
+-- Assumes nothing.
+use Prim.Native.Nat.{ℕ, zero, suc, _+_, _-_}
+use mathlib.Core.Bool.{cond, _||_}
+use mathlib.Core.List.{List, [], _∷_, _++_, map}
+use lib.ListN.{length, replicate}
+use lib.Dec.{leb, ltb, eqb}
+use Rattle.reading.specs.declared.FreeName.{FreeName}
+use Rattle.reading.specs.declared.Head.{Head}
+use Rattle.reading.specs.declared.Node.{Node}
+use Rattle.reading.specs.declared.Node.the-variants.{Nil, Silent, Send, Receive, Sum, Parallel, Restriction, Match, Replication, Bracket}
+use Rattle.reading.specs.declared.Reading.{Reading}
+use Rattle.reading.specs.declared.Refusal.{Refusal}
+use Rattle.reading.specs.declared.Slot.{Slot}
+use Rattle.reading.specs.Limits.{longest, mostNames, mostNodes, mostDepth}
+use Rattle.reading.specs.Text.{Line, linesOf}
+use Rattle.reading.specs.Frames.{Judged, faulty, fine, andOn, firstLine, freeNames, treeLines, frameIn}
+use Rattle.reading.specs.Scope.{Scope, noNames, naming, inside}
+use Rattle.reading.specs.Rules.{headIn, nameIn, nodeIn}
+use Rattle.reading.specs.Tree.{Tree, nil, silent, send, receive, sum, parallel, restriction, match, replication, bracket, listing}
+
+-- what reading ends in: a refusal, or what was read
+pub data Outcome (A : Type 0) : Type 0 where
+  refused : Refusal → Outcome A
+  read : A → Outcome A
+
+-- where reading stands: the lines that are left, and the number of the first of them
+pub record Place : Type 0 where
+  pub line : ℕ
+  pub left : List Line
+
+abbrev pub rest : List Line → List Line
+rest [] = []
+rest (l ∷ ls) = ls
+
+-- one line on
+abbrev pub onward : Place → Place
+onward place = record { line = place .line + 1; left = rest (place .left) }
+
+-- a refusal, at the line where reading stands
+abbrev pub refuse : {A : Type 0} → Place → ℕ → Outcome A
+refuse place number = refused (record { number = number; line = place .line })
+
+-- what is judged of the line where reading stands: refused there, or gone on with
+abbrev pub judged : {A B : Type 0} → Place → Judged A → (A → Outcome B) → Outcome B
+judged place (faulty number) go-on = refuse place number
+judged place (fine a) go-on = go-on a
+
+abbrev pub andThen : {A B : Type 0} → Outcome A → (A → Outcome B) → Outcome B
+andThen (refused f) go-on = refused f
+andThen (read a) go-on = go-on a
+
+-- ---- the free names
+
+-- free names, and where reading stands behind them
+pub record Named : Type 0 where
+  pub names : List FreeName
+  pub after : Place
+
+abbrev pub before : FreeName → Named → Named
+before f n = record { names = f ∷ n .names; after = n .after }
+
+-- the free name on the next line
+abbrev pub nextName : Head → ℕ → List Line → Judged FreeName
+nextName h least left = andOn (frameIn freeNames left) (nameIn h least)
+
+-- `many` free names, each `least` or more, strictly ascending
+unfoldable pub readNames : ℕ → Head → ℕ → Place → Outcome Named
+readNames zero h least place = read (record { names = []; after = place })
+readNames (suc many) h least place =
+    judged place (nextName h least (place .left)) λ name.
+    andThen (readNames many h (name .name + 1) (onward place)) λ named. read (before name named)
+
+-- ---- the tree
+
+-- a tree, and where reading stands behind it
+pub record Grown : Type 0 where
+  pub tree : Tree
+  pub after : Place
+
+-- a reader of trees: where so many nodes are read, at a place
+abbrev pub Reader : Type 0
+Reader = ℕ → Place → Outcome Grown
+
+-- one branch
+abbrev pub one : (Tree → Tree) → Reader → Reader
+one node branch count place =
+    andThen (branch count place) λ g. read (record { tree = node (g .tree); after = g .after })
+
+-- two branches, the second where the first ended
+abbrev pub two : (Tree → Tree → Tree) → Reader → Reader
+two node branch count place =
+    andThen (branch count place) λ g. one (node (g .tree)) branch (count + length (listing (g .tree))) (g .after)
+
+-- a node with its branches
+unfoldable pub grow : Node → Reader → Reader
+grow Nil branch = λ count place. read (record { tree = nil; after = place })
+grow Silent branch = one silent branch
+grow (Send x y) branch = one (send x y) branch
+grow (Receive x y b) branch = one (receive x y b) branch
+grow Sum branch = two sum branch
+grow Parallel branch = two parallel branch
+grow (Restriction x c) branch = one (restriction x c) branch
+grow (Match x y) branch = one (match x y) branch
+grow Replication branch = one replication branch
+grow (Bracket l) branch = one (bracket l) branch
+
+-- the node on the next line, with so much depth left and so many nodes read: 10, 11, then its own rule
+unfoldable pub nextNode : ℕ → Head → Scope → ℕ → List Line → Judged Node
+nextNode depth h scope count left =
+    andOn (frameIn treeLines left) λ frame.
+    cond (leb mostNodes count) (faulty 10) (cond (eqb depth 0) (faulty 11) (nodeIn h scope frame))
+
+-- a tree of at most so much depth
+unfoldable pub readTree : ℕ → Head → Scope → Reader
+readTree zero h scope count place = judged place (nextNode zero h scope count (place .left)) λ node. refuse place 11
+readTree (suc depth) h scope count place =
+    judged place (nextNode (suc depth) h scope count (place .left)) λ node.
+    grow node (readTree depth h (inside node scope)) (count + 1) (onward place)
+
+-- ---- the whole text
+
+-- a plan: its head, its free names and its tree
+pub record Plan : Type 0 where
+  pub head : Head
+  pub names : List FreeName
+  pub tree : Tree
+
+-- the tree has closed: 13 where a line is left, without looking at it
+abbrev pub closed : Place → List Line → Plan → Outcome Plan
+closed place [] plan = read plan
+closed place (l ∷ ls) plan = refuse place 13
+
+-- the head, on the first line
+abbrev pub firstHead : List Line → Judged Head
+firstHead left = andOn (frameIn firstLine left) headIn
+
+-- what follows the head: the free names, the tree, and nothing more
+unfoldable pub afterHead : Head → Place → Outcome Plan
+afterHead h place =
+    andThen (readNames (h .names) h 0 place) λ named.
+    andThen (readTree mostDepth h (naming noNames (named .names)) 0 (named .after)) λ grown.
+    closed (grown .after) (grown .after .left) (record { head = h; names = named .names; tree = grown .tree })
+
+unfoldable pub readPlan : Place → Outcome Plan
+readPlan place = judged place (firstHead (place .left)) λ h. afterHead h (onward place)
+
+-- 1 first of all, with line 0; then the lines in order, from number 1
+unfoldable pub planIn : List ℕ → Outcome Plan
+planIn text =
+    cond (eqb (length text) 0 || ltb longest (length text))
+    (refused (record { number = 1; line = 0 }))
+    (readPlan (record { line = 1; left = linesOf text }))
+
+-- ---- what the reader returns
+
+-- unused places hold zero, or nil for a node
+unfoldable pub padded : {A : Type 0} → ℕ → A → List A → List A
+padded n d xs = xs ++ replicate (n - length xs) d
+
+abbrev pub noName : FreeName
+noName = record { name = 0; channel = 0 }
+
+abbrev pub slot : Node → Slot
+slot n = record { node = n }
+
+abbrev pub noHead : Head
+noHead = record { channels = 0; binders = 0; top = 0; names = 0 }
+
+abbrev pub noRefusal : Refusal
+noRefusal = record { number = 0; line = 0 }
+
+-- a refused text gives nothing read
+abbrev pub readingOf : Outcome Plan → Reading
+readingOf (refused f) =
+    record { refusal = f; head = noHead; names = replicate mostNames noName; count = 0; nodes = replicate mostNodes (slot Nil) }
+readingOf (read p) =
+    record {
+      refusal = noRefusal;
+      head = p .head;
+      names = padded mostNames noName (p .names);
+      count = length (listing (p .tree));
+      nodes = padded mostNodes (slot Nil) (map slot (listing (p .tree)));
+    }

@@ -1,0 +1,92 @@
+-- What reading promises of every text: a refusal has a number from 1 to 13 and a line that fits two bytes; a plan keeps document 01's limits,
+-- and every marker in it is that of a free name, of an enclosing restriction or of an enclosing receive.
+-- Assumes nothing.
+use Prim.Native.Nat.{ℕ, _+_, _^_, _≤_, _<_}
+use mathlib.Core.Path.{_≡_}
+use mathlib.Core.List.{List, [], _∷_, map, List·Memᴰ}
+use lib.ListN.{length}
+use Rattle.reading.specs.declared.Marker.{Marker}
+use Rattle.reading.specs.declared.Marker.the-variants.{Channel, Binder}
+use Rattle.reading.specs.declared.Node.{Node}
+use Rattle.reading.specs.declared.Node.the-variants.{Nil, Silent, Send, Receive, Sum, Parallel, Restriction, Match, Replication, Bracket}
+use Rattle.reading.specs.declared.Head.{Head}
+use Rattle.reading.specs.declared.FreeName.{FreeName}
+use Rattle.reading.specs.Limits.{mostChannels, mostBinders, highestLevel, highestName, mostNames, mostNodes, mostDepth}
+use Rattle.reading.specs.Tree.{Tree, nil, silent, send, receive, sum, parallel, restriction, match, replication, bracket, listing, depth}
+use Rattle.reading.specs.Plan.{Outcome, refused, read, Plan}
+
+-- ---- the limits
+
+pub record HeadWithin (h : Head) : Type 0 where
+  pub some : 1 ≤ h .channels
+  pub channels : h .channels ≤ mostChannels
+  pub binders : h .binders ≤ mostBinders
+  pub top : h .top ≤ highestLevel
+  pub names : h .names ≤ mostNames
+
+-- names at most 63, channels below C, and strictly ascending from `least` on
+abbrev pub NamesWithin : Head → ℕ → List FreeName → Type 0
+NamesWithin h least [] = Unit {0}
+NamesWithin h least (f ∷ fs) =
+    (least ≤ f .name) × (f .name ≤ highestName) × (f .channel < h .channels) × NamesWithin h (f .name + 1) fs
+
+-- a channel below C, a binder below B
+abbrev pub MarkerWithin : Head → Marker → Type 0
+MarkerWithin h (Channel c) = c < h .channels
+MarkerWithin h (Binder b) = b < h .binders
+
+-- names at most 63, channels below C, binders below B, levels at most k
+abbrev pub NodeWithin : Head → Node → Type 0
+NodeWithin h Nil = Unit {0}
+NodeWithin h Silent = Unit {0}
+NodeWithin h (Send x y) = MarkerWithin h x × MarkerWithin h y
+NodeWithin h (Receive x y b) = MarkerWithin h x × (y ≤ highestName) × (b < h .binders)
+NodeWithin h Sum = Unit {0}
+NodeWithin h Parallel = Unit {0}
+NodeWithin h (Restriction x c) = (x ≤ highestName) × (c < h .channels)
+NodeWithin h (Match x y) = MarkerWithin h x × MarkerWithin h y
+NodeWithin h Replication = Unit {0}
+NodeWithin h (Bracket l) = l ≤ h .top
+
+abbrev pub EachWithin : Head → List Node → Type 0
+EachWithin h [] = Unit {0}
+EachWithin h (n ∷ ns) = NodeWithin h n × EachWithin h ns
+
+-- ---- the givers of markers
+
+-- the marker is one of those given
+abbrev pub IsGiven : List Marker → Marker → Type 0
+IsGiven given m = List·Memᴰ m given
+
+-- each marker in the tree is given outside it, or by an enclosing receive or restriction in it
+abbrev pub Scoped : List Marker → Tree → Type 0
+Scoped given nil = Unit {0}
+Scoped given (silent p) = Scoped given p
+Scoped given (send x y p) = IsGiven given x × IsGiven given y × Scoped given p
+Scoped given (receive x y b p) = IsGiven given x × Scoped (Binder b ∷ given) p
+Scoped given (sum p q) = Scoped given p × Scoped given q
+Scoped given (parallel p q) = Scoped given p × Scoped given q
+Scoped given (restriction x c p) = Scoped (Channel c ∷ given) p
+Scoped given (match x y p) = IsGiven given x × IsGiven given y × Scoped given p
+Scoped given (replication p) = Scoped given p
+Scoped given (bracket l p) = Scoped given p
+
+-- the markers that free names give: their channels
+abbrev pub givenBy : List FreeName → List Marker → List Marker
+givenBy [] given = given
+givenBy (f ∷ fs) given = givenBy fs (Channel (f .channel) ∷ given)
+
+-- ---- the promise
+
+pub record PlanWithin (p : Plan) : Type 0 where
+  pub head : HeadWithin (p .head)
+  pub counted : length (p .names) ≡ p .head .names
+  pub names : NamesWithin (p .head) 0 (p .names)
+  pub nodes : EachWithin (p .head) (listing (p .tree))
+  pub few : length (listing (p .tree)) ≤ mostNodes
+  pub shallow : depth (p .tree) ≤ mostDepth
+  pub scoped : Scoped (givenBy (p .names) []) (p .tree)
+
+abbrev pub Kept : Outcome Plan → Type 0
+Kept (refused f) = (1 ≤ f .number) × (f .number ≤ 13) × (f .line < 2 ^ 16)
+Kept (read p) = PlanWithin p
