@@ -7,9 +7,10 @@ use crate::fuzz::fuzz;
 use crate::records;
 use crate::sheet::sheet;
 use crate::solving::AMPLE_ROUNDS;
+use crate::vectors::vectors;
 
 const USAGE: &str =
-    "use: second sheet [ALLOWANCE] | batch | records COUNT SEED | fuzz COUNT SEED PROGRAM";
+    "use: second sheet [ALLOWANCE] | batch | records COUNT SEED | vectors | fuzz COUNT SEED PROGRAM";
 
 /// Runs the command that the words name. False means that sheets differed; an
 /// error is one line for the user, and nothing but a failed write or a failed
@@ -32,6 +33,7 @@ pub fn run(
             let (count, seed) = (number(count, u64::MAX)?, number(seed, u64::MAX)?);
             print_records(count, seed, &mut output)?
         }
+        ["vectors"] => print_vectors(&mut output)?,
         ["fuzz", count, seed, program] => {
             let (count, seed) = (number(count, u64::MAX)?, number(seed, u64::MAX)?);
             print_fuzz(count, seed, program, &mut output)?
@@ -70,6 +72,14 @@ fn print_records(count: u64, seed: u64, output: &mut impl Write) -> Result<bool,
         if let Some(record) = drawing.next() {
             records::write(&record, output).map_err(cannot_write)?;
         }
+    }
+    Ok(true)
+}
+
+/// Prints the records that are stored beside the product's batch program.
+fn print_vectors(output: &mut impl Write) -> Result<bool, String> {
+    for record in vectors() {
+        records::write(&record, output).map_err(cannot_write)?;
     }
     Ok(true)
 }

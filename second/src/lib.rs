@@ -18,3 +18,4 @@ pub mod records;
 pub mod relays;
 pub mod sheet;
 pub mod solving;
+pub mod vectors;

@@ -1,7 +1,7 @@
 -- A tree read from a place, as the code holds it: what the next line says, then the branches, whose nodes are stored behind the node's own.
 -- Assumes nothing.
-use Prim.Native.Nat.{ℕ, zero, suc, _+_, _-_, _*_, _≤_, _<_}
-use mathlib.Core.Path.{_≡_, refl, sym, ap, ap₂, _∙_, subst}
+use Prim.Native.Nat.{ℕ, zero, suc, _+_, _-_, _<_}
+use mathlib.Core.Path.{_≡_, refl, sym, ap, _∙_, subst}
 use mathlib.Core.Bool.{Bool, true, false, cond}
 use mathlib.Core.List.{List, [], _∷_, _++_, map}
 use native.Mathlib.Numerals.{add-one, sub-one}
@@ -18,14 +18,13 @@ use Rattle.reading.specs.declared.Slot.{Slot}
 use Rattle.reading.specs.declared.cursor.Cursor.{Cursor}
 use Rattle.reading.specs.declared.rules.Step.{Step}
 use Rattle.reading.specs.declared.tree.State.{State}
-use Rattle.reading.specs.Text.{Line}
 use Rattle.reading.specs.Frames.{Judged, faulty, fine, andOn, treeLines, frameIn}
 use Rattle.reading.specs.Scope.{Scope, inside}
 use Rattle.reading.specs.Rules.{nodeIn}
 use Rattle.reading.specs.Limits.{mostNodes}
-use Rattle.reading.specs.Tree.{Tree, nil, silent, send, receive, sum, parallel, restriction, match, replication, bracket, listing}
+use Rattle.reading.specs.Tree.{Tree, silent, send, receive, sum, parallel, restriction, match, replication, bracket, listing}
 use Rattle.reading.specs.Plan.{Outcome, refused, read, Place, rest, onward, refuse, andThen, Grown, Reader, one, two, grow, nextNode, readTree, slot}
-use Rattle.reading.specs.Working.{restAt, endAt, stepOf, Stands, placeAt, Past, Grew, Grows, GrowsOn, Branches, branchesOf}
+use Rattle.reading.specs.Working.{restAt, endAt, stepOf, Stands, placeAt, Past, Grows, GrowsOn, Branches, branchesOf}
 use Rattle.reading.proofs.Lines.{rest-split}
 use Rattle.reading.proofs.Table.{Framing, framing}
 

@@ -1,3 +1,4 @@
+-- The laws behind the functions' proofs, from lines to the whole text; then what reading promises, and the edges of document 01.
 pub mod Tests
 pub mod Lines
 pub mod Scopes
@@ -9,3 +10,5 @@ pub mod TreeWithin
 pub mod Promise
 pub mod Padding
 pub mod Whole
+pub mod Listing
+mod Edges

@@ -1,13 +1,12 @@
 -- Free names read from a place, as the code holds them: what the next line says, then the rest, stored behind it and given inside it.
 -- Assumes nothing.
-use Prim.Native.Nat.{ℕ, zero, suc, _+_, _-_, _≤_, _<_}
-use mathlib.Core.Path.{_≡_, refl, sym, ap, _∙_}
-use mathlib.Core.Bool.{Bool, true, false}
-use mathlib.Core.List.{List, [], _∷_}
+use Prim.Native.Nat.{ℕ, zero, suc, _+_, _-_, _<_}
+use mathlib.Core.Path.{_≡_, refl, sym, _∙_}
+use mathlib.Core.Bool.{true, false}
+use mathlib.Core.List.{List}
 use native.Mathlib.Numerals.{add-one, sub-one}
 use native.Mathlib.Omega.{arith}
 use lib.ListN.{length, set}
-use lib.Seq.{sets}
 use Rattle.reading.specs.declared.FreeName.{FreeName}
 use Rattle.reading.specs.declared.Head.{Head}
 use Rattle.reading.specs.declared.Marker.the-variants.{Channel}
@@ -18,8 +17,8 @@ use Rattle.reading.specs.Frames.{Judged, faulty, fine, andOn, freeNames,
 use Rattle.reading.specs.Scope.{giving}
 use Rattle.reading.specs.Rules.{nameIn}
 use Rattle.reading.specs.Plan.{Outcome, refused, read, Place, onward, refuse, andThen, Named, before, nextName, readNames}
-use Rattle.reading.specs.Working.{restAt, endAt, entryOf, meaningIn, Stands, placeAt, Past, Gathered, Gathers}
-use Rattle.reading.proofs.Table.{Framing, framing}
+use Rattle.reading.specs.Working.{restAt, endAt, entryOf, meaningIn, Stands, placeAt, Past, Gathers}
+use Rattle.reading.proofs.Table.{framing}
 use Rattle.reading.proofs.Growing.{onward-past}
 
 entry-faulty : (j : Judged FreeName) (w : ℕ) → entryOf j ≡ Entry.Faulty w → j ≡ faulty w

@@ -1,6 +1,8 @@
--- The promise of reading, for every text: `kept`. Assumes nothing.
-use Prim.Native.Nat.{ℕ, zero, suc, _+_, _^_, _≤_, _<_}
-use mathlib.Core.Path.{_≡_, refl, ap, _∙_}
+-- The promise of reading, for every text: `kept`, that number 0 is given exactly to a plan, and that the contract of `read` determines its outcome.
+-- Assumes nothing.
+use Prim.Native.Nat.{ℕ, suc, _+_, _≤_, _<_}
+use mathlib.Core.Path.{_≡_, refl, sym, ap, _∙_}
+use mathlib.Core.Logic.{_↔_}
 use mathlib.Core.Bool.{Bool, true, false, cond, _||_}
 use mathlib.Core.List.{List, [], _∷_}
 use native.Mathlib.Omega.{arith}
@@ -8,17 +10,16 @@ use lib.Dec.{ltb, eqb, lit<}
 use lib.ListN.{length}
 use borrow.Author.Tests.{ltb-false}
 use Rattle.reading.specs.declared.Head.{Head}
-use Rattle.reading.specs.declared.Marker.{Marker}
-use Rattle.reading.specs.declared.scope.Meaning.the-variants.{Nothing, Is}
+use Rattle.reading.specs.declared.Reading.{Reading}
 use Rattle.reading.specs.Limits.{longest, mostDepth}
 use Rattle.reading.specs.Text.{Line, lineFeed, inFront, linesOf}
 use Rattle.reading.specs.Frames.{Judged, faulty, fine, byte, firstLine, frameIn}
 use Rattle.reading.specs.Scope.{noNames, naming}
 use Rattle.reading.specs.Rules.{headIn}
-use Rattle.reading.specs.Plan.{Outcome, refused, read, Place, onward, readNames, Grown, readTree, Plan, closed, firstHead, afterHead, readPlan, planIn}
+use Rattle.reading.specs.Plan.{Outcome, refused, read, Place, onward, readNames, readTree, Plan, closed, firstHead, afterHead, readPlan, wrongLength, planIn, readingOf}
 use Rattle.reading.specs.Promise.{HeadWithin, NamesWithin, givenBy, PlanWithin, Kept}
 use Rattle.reading.proofs.RulesWithin.{Judges, judges-on, some-line, head-within, ScopeWithin}
-use Rattle.reading.proofs.TreeWithin.{InOrder, Numbered, Ends, ends-then, ends-judged, numbered-on, names-within, naming-within, TreeGood, tree-within}
+use Rattle.reading.proofs.TreeWithin.{Numbered, Ends, ends-then, ends-judged, numbered-on, names-within, naming-within, TreeGood, tree-within}
 
 -- a text has no more lines than characters
 few-lines : (s : List ℕ) → length (linesOf s) ≤ length s
@@ -75,7 +76,7 @@ plan-within m place numbered =
 
 -- every text: a refusal has a number from 1 to 13 and a line that fits two bytes, and a plan is within the limits
 pub kept : (s : List ℕ) → Kept (planIn s)
-unfolding planIn
+unfolding planIn wrongLength
 kept s = go (eqb (length s) 0) (ltb longest (length s)) refl
   where
     order : (o : Outcome Plan) → length s ≤ longest → Ends (1 + length s) PlanWithin o → Kept o
@@ -89,3 +90,15 @@ kept s = go (eqb (length s) 0) (ltb longest (length s)) refl
     go false false e =
         order (readPlan (record { line = 1; left = linesOf s })) (ltb-false longest (length s) e)
         (plan-within (1 + length s) (record { line = 1; left = linesOf s }) (omega (arith, few-lines s)))
+
+-- number 0 exactly where the text is a plan
+pub number-zero : (s : List ℕ) → (readingOf (planIn s) .refusal .number ≡ 0) ↔ ((p : Plan) × (planIn s ≡ read p))
+number-zero s = (go (planIn s) refl (kept s), λ w. ap (λ o. readingOf o .refusal .number) (w .1))
+  where
+    go : (o : Outcome Plan) → planIn s ≡ o → Kept o → readingOf o .refusal .number ≡ 0 → (p : Plan) × (planIn s ≡ read p)
+    go (refused f) e k z = let some = k .0 in absurd (omega arith)
+    go (read p) e k z = (p, e)
+
+-- two outcomes that the contract of `read` admits are equal
+pub once : (s : List ℕ) (a b : Reading) → a ≡ readingOf (planIn s) → b ≡ readingOf (planIn s) → a ≡ b
+once s a b p q = p ∙ sym q

@@ -17,11 +17,12 @@ use Rattle.reading.specs.declared.scope.Meaning.{Meaning}
 use Rattle.reading.specs.declared.scope.Meaning.the-variants.{Nothing, Is}
 use Rattle.reading.specs.declared.frames.Kind.{Kind}
 use Rattle.reading.specs.declared.frames.Kind.the-variants as kind
-use Rattle.reading.specs.Limits.{highestName}
+use Rattle.reading.specs.Limits.{mostChannels, mostBinders, highestLevel, highestName, mostNames}
 use Rattle.reading.specs.Text.{Line, isFaulty, bytesOf}
 use Rattle.reading.specs.Frames.{Judged, faulty, fine, andOn, byte, frameOf, frameFor, frameIn}
 use Rattle.reading.specs.Scope.{Scope}
-use Rattle.reading.specs.Rules.{outsideLimits, headRule, nameRule, meant, pairRule, receiveRule, restrictionRule, bracketRule, nodeBy}
+use Rattle.reading.specs.Rules.{edition, outsideLimits, headRule, nameRule, meant, pairRule, receiveRule, restrictionRule, bracketRule, nodeBy}
+use Rattle.reading.proofs.Tests.{or-false}
 use Rattle.reading.specs.Promise.{HeadWithin, MarkerWithin, NodeWithin, IsGiven}
 
 -- ---- what is judged of a line: a number from 1 to 13, or P
@@ -38,10 +39,6 @@ pub judges-on : {A B : Type 0} (P : A → Type 0) (Q : B → Type 0) (j : Judged
     → Judges P j → ((a : A) → P a → Judges Q (go-on a)) → Judges Q (andOn j go-on)
 judges-on P Q (faulty n) go-on h k = h
 judges-on P Q (fine a) go-on h k = k a h
-
-or-false : (a b : Bool) → (a || b) ≡ false → (a ≡ false) × (b ≡ false)
-or-false true b e = (e, (cc))
-or-false false b e = (refl, e)
 
 -- a frame stands on a line that is there
 some-frame : (P : List ℕ → Type 0) (section : ℕ) (frame : List ℕ) → P frame → Judges P (frameFor section frame)
@@ -65,23 +62,23 @@ some-line section (l ∷ ls) =
 pub head-within : (said : ℕ) (h : Head) → Judges HeadWithin (headRule said h)
 unfolding headRule outsideLimits
 head-within said h =
-    judges-cond HeadWithin (eqb said 1) (cond (outsideLimits h) (faulty 6) (fine h)) (faulty 5)
+    judges-cond HeadWithin (eqb said edition) (cond (outsideLimits h) (faulty 6) (fine h)) (faulty 5)
     (λ e. judges-cond HeadWithin (outsideLimits h) (faulty 6) (fine h) (λ e. omega arith) within)
     (λ e. omega arith)
   where
     within : outsideLimits h ≡ false → HeadWithin h
     within e =
         let a = or-false (eqb (h .channels) 0) _ e in
-        let b = or-false (ltb 32 (h .channels)) _ (a .1) in
-        let d = or-false (ltb 32 (h .binders)) _ (b .1) in
-        let f = or-false (ltb 6 (h .top)) _ (d .1) in
+        let b = or-false (ltb mostChannels (h .channels)) _ (a .1) in
+        let d = or-false (ltb mostBinders (h .binders)) _ (b .1) in
+        let f = or-false (ltb highestLevel (h .top)) _ (d .1) in
         let none : h .channels ≡ 0 → ⊥ = eqb-false (h .channels) 0 (a .0) in
         record {
           some = omega arith;
-          channels = ltb-false 32 (h .channels) (b .0);
-          binders = ltb-false 32 (h .binders) (d .0);
-          top = ltb-false 6 (h .top) (f .0);
-          names = ltb-false 64 (h .names) (f .1);
+          channels = ltb-false mostChannels (h .channels) (b .0);
+          binders = ltb-false mostBinders (h .binders) (d .0);
+          top = ltb-false highestLevel (h .top) (f .0);
+          names = ltb-false mostNames (h .names) (f .1);
         }
 
 -- a free name within the limits, `least` or more

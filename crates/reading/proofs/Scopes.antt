@@ -1,14 +1,13 @@
 -- The scope as an array is the scope as a function, name by name. Assumes nothing.
 use Prim.Native.Nat.{ℕ, zero, suc, _<_}
-use mathlib.Core.Path.{_≡_, refl, ap, _∙_, subst, sym, fun-ext}
+use mathlib.Core.Path.{_≡_, refl, ap, _∙_, sym, fun-ext}
 use mathlib.Core.List.{List}
 use native.Mathlib.Decide.{ℕ-discrete}
-use lib.ListN.{length, getD, set, replicate}
+use lib.ListN.{length, set, replicate}
 use lib.Seq.{getD-set-same, getD-set-other}
 use borrow.Author.Tests.{eq-eqb, ne-eqb}
 use Rattle.reading.specs.declared.Marker.{Marker}
 use Rattle.reading.specs.declared.scope.Given.{Given}
-use Rattle.reading.specs.declared.scope.Meaning.{Meaning}
 use Rattle.reading.specs.declared.scope.Meaning.the-variants.{Nothing, Is}
 use Rattle.reading.specs.Scope.{noNames, giving}
 use Rattle.reading.specs.Working.{meaningIn}

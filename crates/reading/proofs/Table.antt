@@ -1,12 +1,12 @@
 -- What the table says of every first byte: how long a frame of each kind is; and the frame on the line at a position, by the tests of the code.
 -- Assumes nothing.
-use Prim.Native.Nat.{ℕ, zero, suc, _+_, _-_, _*_, _/_, _%_, _≤_, _<_}
+use Prim.Native.Nat.{ℕ, _+_, _*_, _%_, _≤_, _<_}
 use mathlib.Core.Path.{_≡_, refl, sym, ap, _∙_, subst}
 use mathlib.Core.Bool.{Bool, true, false, cond, not, _||_}
 use mathlib.Core.List.{List, [], _∷_}
 use native.Mathlib.Omega.{arith}
 use native.Mathlib.Decide.{decLt}
-use lib.Dec.{ltb, eqb}
+use lib.Dec.{eqb}
 use lib.ListN.{length}
 use borrow.Author.Tests.{eqb-true, eqb-false, eq-eqb, ne-eqb, ltb-true, not-false}
 use Rattle.reading.specs.declared.frames.Kind.{Kind}
@@ -20,6 +20,7 @@ use Rattle.reading.specs.Scope.{Scope}
 use Rattle.reading.specs.Rules.{nodeBy, nodeIn}
 use Rattle.reading.specs.Working
 use Rattle.reading.specs.Working.{restAt, lineAt, endAt, frameAt, framedOf}
+use Rattle.reading.proofs.Tests.{or-false}
 use Rattle.reading.proofs.Lines.{rest-none, rest-split, bytes-length, ended-at}
 
 -- ---- a property of every row
@@ -75,10 +76,6 @@ module _ (bytes : List ℕ) (row : Frame) (r : Working.Row bytes row) (k : Kind)
   rule-by-kind h scope = ap (λ (j : Kind). nodeBy j h scope bytes) (sym of-kind)
 
 -- ---- a line with no fault
-
-or-false : (a b : Bool) → (a || b) ≡ false → (a ≡ false) × (b ≡ false)
-or-false true b e = (e, (cc))
-or-false false b e = (refl, e)
 
 -- its line feed is there, and its characters are two for each of its bytes, of which it has one at least
 pub record Sound (l : Line) : Type 0 where

@@ -2,7 +2,7 @@
 -- with room for it, in whose scope every marker is given.
 -- Assumes nothing.
 use Prim.Native.Nat.{ℕ, zero, suc, _+_, _≤_, _<_, max}
-use mathlib.Core.Path.{_≡_, refl, sym, ap, _∙_, subst}
+use mathlib.Core.Path.{_≡_, refl, sym, ap, subst}
 use mathlib.Core.Bool.{Bool, true, false, cond}
 use mathlib.Core.List.{List, [], _∷_, _++_, List·Memᴰ·head, List·Memᴰ·tail}
 use native.Mathlib.Omega.{arith}
@@ -16,17 +16,16 @@ use Rattle.reading.specs.declared.Marker.{Marker}
 use Rattle.reading.specs.declared.Marker.the-variants.{Channel, Binder}
 use Rattle.reading.specs.declared.Node.{Node}
 use Rattle.reading.specs.declared.Node.the-variants.{Nil, Silent, Send, Receive, Sum, Parallel, Restriction, Match, Replication, Bracket}
-use Rattle.reading.specs.declared.scope.Meaning.{Meaning}
-use Rattle.reading.specs.declared.scope.Meaning.the-variants.{Nothing, Is}
+use Rattle.reading.specs.declared.scope.Meaning.the-variants.{Is}
 use Rattle.reading.specs.Limits.{mostNodes}
 use Rattle.reading.specs.Text.{Line}
 use Rattle.reading.specs.Frames.{Judged, faulty, fine, byte, frameOf, freeNames, treeLines, frameIn}
 use Rattle.reading.specs.Scope.{Scope, giving, naming, inside}
 use Rattle.reading.specs.Rules.{nameIn, nodeIn}
-use Rattle.reading.specs.Tree.{Tree, nil, silent, send, receive, sum, parallel, restriction, match, replication, bracket, listing, depth}
-use Rattle.reading.specs.Plan.{Outcome, refused, read, Place, rest, onward, judged, andThen, Named, before, nextName, readNames, Grown, Reader, one, two, grow, nextNode, readTree}
+use Rattle.reading.specs.Tree.{Tree, silent, send, receive, sum, parallel, restriction, match, replication, bracket, listing, depth}
+use Rattle.reading.specs.Plan.{Outcome, refused, read, Place, rest, onward, judged, andThen, nextName, readNames, Grown, Reader, one, two, grow, nextNode, readTree}
 use Rattle.reading.specs.Promise.{NamesWithin, MarkerWithin, NodeWithin, EachWithin, IsGiven, Scoped, givenBy}
-use Rattle.reading.proofs.RulesWithin.{Judges, judges-cond, judges-on, some-line, NameWithin, name-within, ScopeWithin, Uses, NodeGood, node-within}
+use Rattle.reading.proofs.RulesWithin.{Judges, judges-cond, judges-on, some-line, NameWithin, name-within, ScopeWithin, NodeGood, node-within}
 
 -- ---- what reading ends in, where lines are numbered up to m
 

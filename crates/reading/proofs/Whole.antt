@@ -1,30 +1,29 @@
 -- The whole text, by what the sections gave: free names, then a tree, then nothing more. Assumes nothing.
 use Prim.Native.Nat.{ℕ, _+_, _≤_, _<_}
 use mathlib.Core.Path.{_≡_, refl, sym, ap, _∙_, subst}
-use mathlib.Core.Bool.{Bool, true, false, cond, _||_}
-use mathlib.Core.List.{List, [], _∷_, map}
+use mathlib.Core.Bool.{true, false}
+use mathlib.Core.List.{List, map}
 use native.Mathlib.Omega.{arith}
 use lib.Dec.{ltb, eqb}
 use lib.ListN.{length, length-map, replicate}
 use lib.Seq.{sets}
-use borrow.Author.Tests.{eq-eqb, ne-eqb, lt-ltb, le-ltb}
+use borrow.Author.Tests.{ltb-false}
 use Rattle.reading.specs.declared.Head.{Head}
 use Rattle.reading.specs.declared.Node.the-variants.{Nil}
 use Rattle.reading.specs.declared.Reading.{Reading}
-use Rattle.reading.specs.declared.Refusal.{Refusal}
 use Rattle.reading.specs.declared.cursor.Cursor.{Cursor}
 use Rattle.reading.specs.declared.names.Names.{Names}
 use Rattle.reading.specs.declared.rules.Opening.{Opening}
 use Rattle.reading.specs.declared.tree.State.{State}
-use Rattle.reading.specs.Text.{Line}
 use Rattle.reading.specs.Frames.{Judged, faulty, fine, andOn, firstLine, frameIn}
 use Rattle.reading.specs.Limits.{longest, mostNames, mostNodes, mostDepth}
 use Rattle.reading.specs.Scope.{noNames, naming}
 use Rattle.reading.specs.Rules.{headIn}
 use Rattle.reading.specs.Tree.{listing}
-use Rattle.reading.specs.Plan.{Outcome, refused, read, Place, Named, readNames, Grown, readTree, Plan, closed, firstHead, afterHead, readPlan, planIn, padded, noName, slot, readingOf}
+use Rattle.reading.specs.Plan.{Outcome, refused, read, Named, readNames, Grown, readTree, Plan, closed, firstHead, afterHead, readPlan, wrongLength, planIn, padded, noName, slot, readingOf}
 use Rattle.reading.specs.Promise.{HeadWithin, PlanWithin}
 use Rattle.reading.specs.Working.{restAt, endAt, meaningIn, openingOf, Stands, placeAt, Past, FreshNames, Gathered, Gathers, FreshState, Grew, Grows}
+use Rattle.reading.proofs.Tests.{or-false}
 use Rattle.reading.proofs.Lines.{rest-none, rest-split}
 use Rattle.reading.proofs.Table.{framing}
 use Rattle.reading.proofs.Growing.{onward-past, true-not-false}
@@ -135,18 +134,18 @@ abbrev start : Cursor
 start = record { at = 0; line = 1 }
 
 module _ (s : List ℕ) where
-  pub text-empty : length s ≡ 0 → refused (record { number = 1; line = 0 }) ≡ planIn s
+  pub text-wrong : wrongLength (length s) ≡ true → refused (record { number = 1; line = 0 }) ≡ planIn s
   unfolding planIn
-  text-empty e = sym (rw (eq-eqb (length s) 0 e))
+  text-wrong e = sym (rw e)
 
-  pub text-long : (length s ≡ 0 → ⊥) → longest < length s → refused (record { number = 1; line = 0 }) ≡ planIn s
-  unfolding planIn
-  text-long n l = sym (rw (ne-eqb (length s) 0 n, lt-ltb longest (length s) l))
+  pub text-short : wrongLength (length s) ≡ false → length s ≤ longest
+  unfolding wrongLength
+  text-short e = ltb-false longest (length s) (or-false (eqb (length s) 0) (ltb longest (length s)) e .1)
 
-  module _ (some : length s ≡ 0 → ⊥) (short : length s ≤ longest) (k : Opening) (said : k ≡ openingOf (firstHead (restAt s 0))) where
+  module _ (right : wrongLength (length s) ≡ false) (k : Opening) (said : k ≡ openingOf (firstHead (restAt s 0))) where
     plan-there : planIn s ≡ readPlan (placeAt s start)
     unfolding planIn
-    plan-there = rw (ne-eqb (length s) 0 some, le-ltb longest (length s) short)
+    plan-there = rw right
 
     pub text-refused : (w : ℕ) → k ≡ Opening.Faulty w → refused (record { number = w; line = 1 }) ≡ planIn s
     unfolding readPlan
@@ -167,4 +166,4 @@ module _ (s : List ℕ) where
       pub text-read : (next : Cursor) → Past s start next → afterHead h (placeAt s next) ≡ planIn s
       unfolding readPlan
       text-read next past =
-          sym (plan-there ∙ rw (head-there, onward-past s start next (omega arith) past))
+          sym (plan-there ∙ rw (head-there, onward-past s start next (let inside = text-head .1 in omega arith) past))

@@ -8,4 +8,3 @@ pub mod Rules
 pub mod Plan
 pub mod Promise
 pub mod Working
-pub mod Edges

@@ -1,7 +1,7 @@
 -- Document 01, 'Plan text' and 'Refusal numbers': from a text to a plan or its one refusal, with the order in which refusals are judged.
 -- Assumes nothing.
 use Prim.Native.Nat.{ℕ, zero, suc, _+_, _-_}
-use mathlib.Core.Bool.{cond, _||_}
+use mathlib.Core.Bool.{Bool, cond, _||_}
 use mathlib.Core.List.{List, [], _∷_, _++_, map}
 use lib.ListN.{length, replicate}
 use lib.Dec.{leb, ltb, eqb}
@@ -145,10 +145,14 @@ afterHead h place =
 unfoldable pub readPlan : Place → Outcome Plan
 readPlan place = judged place (firstHead (place .left)) λ h. afterHead h (onward place)
 
+-- a text is empty or too long
+unfoldable pub wrongLength : ℕ → Bool
+wrongLength size = eqb size 0 || ltb longest size
+
 -- 1 first of all, with line 0; then the lines in order, from number 1
 unfoldable pub planIn : List ℕ → Outcome Plan
 planIn text =
-    cond (eqb (length text) 0 || ltb longest (length text))
+    cond (wrongLength (length text))
     (refused (record { number = 1; line = 0 }))
     (readPlan (record { line = 1; left = linesOf text }))
 

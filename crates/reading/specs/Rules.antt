@@ -1,6 +1,6 @@
 -- Document 01, 'Refusal numbers': the rule of each frame over its bytes: the head (5, 6), a free name (7, 8), a node (7, 9).
 -- Assumes nothing.
-use Prim.Native.Nat.{ℕ, _+_}
+use Prim.Native.Nat.{ℕ}
 use mathlib.Core.Bool.{Bool, cond, _||_}
 use mathlib.Core.List.{List}
 use lib.Dec.{leb, ltb, eqb}

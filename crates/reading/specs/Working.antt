@@ -1,6 +1,6 @@
 -- What the code holds while it reads, in the terms of the definitions: inner contracts alone cite this.
 -- Assumes nothing.
-use Prim.Native.Nat.{ℕ, zero, suc, _+_, _*_, _≤_, _<_}
+use Prim.Native.Nat.{ℕ, zero, suc, _+_, _≤_}
 use mathlib.Core.Bool.{Bool, true, false}
 use mathlib.Core.Path.{_≡_}
 use mathlib.Core.List.{List, [], _∷_, map}
@@ -11,7 +11,6 @@ use Rattle.reading.specs.declared.Head.{Head}
 use Rattle.reading.specs.declared.Marker.{Marker}
 use Rattle.reading.specs.declared.Node.{Node}
 use Rattle.reading.specs.declared.Node.the-variants as node
-use Rattle.reading.specs.declared.Refusal.{Refusal}
 use Rattle.reading.specs.declared.Slot.{Slot}
 use Rattle.reading.specs.declared.cursor.Cursor.{Cursor}
 use Rattle.reading.specs.declared.frames.Frame.{Frame}
@@ -27,7 +26,7 @@ use Rattle.reading.specs.Limits.{longest, mostNames, mostNodes}
 use Rattle.reading.specs.Text.{Line, linesOf, bytesOf}
 use Rattle.reading.specs.Frames.{Judged, faulty, fine, byte, frameOf}
 use Rattle.reading.specs.Scope.{Scope, noNames, naming}
-use Rattle.reading.specs.Tree.{Tree, listing}
+use Rattle.reading.specs.Tree.{listing}
 use Rattle.reading.specs.Plan.{Outcome, refused, read, Place, Named, Grown, Reader, slot, noName}
 
 -- ---- at a position of the text

@@ -5,7 +5,7 @@ ghost use mathlib.Core.Path.{_≡_};
 ghost use Prim.Native.Nat.{_≤_};
 ghost use lib.ListN.{length};
 ghost use Rattle.reading.specs.Limits.{longest};
-ghost use Rattle.reading.specs.Plan.{Outcome, firstHead, afterHead, planIn, readingOf};
+ghost use Rattle.reading.specs.Plan.{Outcome, wrongLength, firstHead, afterHead, planIn, readingOf};
 ghost use Rattle.reading.specs.Promise.{HeadWithin};
 ghost use Rattle.reading.specs.Working.{restAt, openingOf, Stands, placeAt, FreshNames, FreshState};
 use crate::cursor::Cursor;
@@ -14,6 +14,10 @@ use crate::cursor::refuse;
 use crate::frames::FIRST_LINE;
 use crate::frames::Framed;
 use crate::frames::frame_in;
+use crate::limits::LONGEST;
+use crate::limits::MOST_DEPTH;
+use crate::limits::MOST_NAMES;
+use crate::limits::MOST_NODES;
 use crate::names::Names;
 use crate::names::read_names;
 use crate::rules::Opening;
@@ -24,6 +28,7 @@ use crate::tree::read_node;
 
 mod cursor;
 mod frames;
+mod limits;
 mod names;
 mod rules;
 mod scope;
@@ -79,14 +84,10 @@ pub struct Refusal {
 pub struct Reading {
     pub refusal: Refusal,
     pub head: Head,
-    pub names: [FreeName; 64],
+    pub names: [FreeName; MOST_NAMES],
     pub count: usize,
-    pub nodes: [Slot; 256],
+    pub nodes: [Slot; MOST_NODES],
 }
-
-const LONGEST: usize = 16384;
-
-const MOST_DEPTH: usize = 32;
 
 // No refusal.
 fn no_refusal() -> Refusal
@@ -103,9 +104,9 @@ fn refused(refusal: Refusal) -> Reading
         name: 0,
         channel: 0,
     };
-    let names = [name; 64];
+    let names = [name; MOST_NAMES];
     let slot = Slot { node: Node::Nil };
-    let nodes = [slot; 256];
+    let nodes = [slot; MOST_NODES];
     Reading {
         refusal,
         head: Head {
@@ -128,7 +129,7 @@ fn fresh_names(cursor: Cursor) -> Names
         name: 0,
         channel: 0,
     };
-    let names = [name; 64];
+    let names = [name; MOST_NAMES];
     Names {
         good: true,
         refusal: no_refusal(),
@@ -144,7 +145,7 @@ fn fresh_state(cursor: Cursor) -> State
     ensures { λ r. ⌜ FreshState cursor r ⌝ }
 {
     let slot = Slot { node: Node::Nil };
-    let nodes = [slot; 256];
+    let nodes = [slot; MOST_NODES];
     State {
         good: true,
         refusal: no_refusal(),
@@ -194,15 +195,23 @@ fn after_head(text: &[u8], head: Head, cursor: Cursor) -> Reading
     }
 }
 
+// Whether a text of so many bytes is empty or too long.
+fn wrong_length(size: usize) -> bool
+    ensures { λ r. ⌜ r ≡ wrongLength size ⌝ }
+{
+    if size == 0 {
+        return true;
+    }
+    LONGEST < size
+}
+
 // What a text says: the document's reading of it.
 pub fn read(text: &[u8]) -> Reading
     ensures { λ r. ⌜ r ≡ readingOf (planIn (now (text .entry))) ⌝ }
 {
-    if text.len() == 0 {
-        return refused(Refusal { number: 1, line: 0 });
-    }
-    if LONGEST < text.len() {
-        return refused(Refusal { number: 1, line: 0 });
+    if wrong_length(text.len()) {
+        let nowhere = Cursor { at: 0, line: 0 };
+        return refused(refuse(nowhere, 1));
     }
     let start = Cursor { at: 0, line: 1 };
     match first_head(text) {

@@ -16,6 +16,7 @@ use crate::cursor::refuse;
 use crate::frames::FREE_NAMES;
 use crate::frames::Framed;
 use crate::frames::frame_in;
+use crate::limits::MOST_NAMES;
 use crate::rules::Entry;
 use crate::rules::name_in;
 use crate::scope::Given;
@@ -27,7 +28,7 @@ pub(crate) struct Names {
     pub(crate) refusal: Refusal,
     pub(crate) cursor: Cursor,
     pub(crate) count: usize,
-    pub(crate) names: [FreeName; 64],
+    pub(crate) names: [FreeName; MOST_NAMES],
     pub(crate) scope: [Given; 256],
 }
 

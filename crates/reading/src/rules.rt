@@ -5,26 +5,20 @@ ghost use Rattle.reading.specs.Rules.{outsideLimits, headIn, nameRule, n
 ghost use Rattle.reading.specs.Working.{frameAt, Row, meaningIn, pairOf, openingOf, entryOf, stepOf};
 use crate::FreeName;
 use crate::Head;
-use crate::Marker;
 use crate::Node;
 use crate::frames::Frame;
 use crate::frames::Kind;
+use crate::limits::HIGHEST_LEVEL;
+use crate::limits::HIGHEST_NAME;
+use crate::limits::MOST_BINDERS;
+use crate::limits::MOST_CHANNELS;
+use crate::limits::MOST_NAMES;
 use crate::scope::Given;
 use crate::scope::Meaning;
 use crate::scope::look_up;
 use crate::text::byte_in;
 
 const EDITION: u8 = 1;
-
-const MOST_CHANNELS: u8 = 32;
-
-const MOST_BINDERS: u8 = 32;
-
-const HIGHEST_LEVEL: u8 = 6;
-
-const HIGHEST_NAME: u8 = 63;
-
-const MOST_NAMES: u8 = 64;
 
 // What the first line says: a refusal's number, or the head.
 pub(crate) enum Opening {
@@ -61,7 +55,7 @@ fn outside_limits(head: Head) -> bool
     if HIGHEST_LEVEL < head.top {
         return true;
     }
-    MOST_NAMES < head.names
+    MOST_NAMES < head.names as usize
 }
 
 // The head in the frame at `at`.

@@ -16,12 +16,11 @@ use crate::cursor::refuse;
 use crate::frames::Framed;
 use crate::frames::TREE_LINES;
 use crate::frames::frame_in;
+use crate::limits::MOST_NODES;
 use crate::rules::Step;
 use crate::rules::node_in;
 use crate::scope::Given;
 use crate::scope::enter;
-
-const MOST_NODES: usize = 256;
 
 // The nodes read so far, or a refusal.
 pub(crate) struct State {
@@ -29,7 +28,7 @@ pub(crate) struct State {
     pub(crate) refusal: Refusal,
     pub(crate) cursor: Cursor,
     pub(crate) count: usize,
-    pub(crate) nodes: [Slot; 256],
+    pub(crate) nodes: [Slot; MOST_NODES],
 }
 
 // The same, refused.

@@ -1,5 +1,5 @@
 -- `after_head`: each return is one law over what the sections gave. Assumes nothing.
-use mathlib.Core.Path.{_≡_, sym, ap, _∙_, subst}
+use mathlib.Core.Path.{sym, ap, _∙_, subst}
 use native.Mathlib.Omega.{arith}
 use borrow.Author.Needs.{needs}
 use borrow.Author.Tests.{not-true, not-false}
@@ -55,11 +55,10 @@ returns-2 c =
     let grown = c .before .before .before in
     let named = grown .before .before .before .before .before in
     let begun = named .before .before .before .before in
-    let s = begun .args .text .now in
-    let h = begun .args .head in
-    let cursor = begun .args .cursor in
     let good = not-false _ (grown .before .before .before .if1 .left) in
-    let law = after-tree s h cursor (begun .pre .0) _ _ (named .before .fresh-names .ensures) (named .read-names .ensures) good _ _ (grown .before .fresh-state .ensures) (grown .read-node .ensures) (not-true _ (c .before .if2 .taken)) in
+    let fresh = named .before .fresh-names .ensures in
+    let law = after-tree (begun .args .text .now) (begun .args .head) (begun .args .cursor) (begun .pre .0) _ _ fresh (named .read-names .ensures) good
+    _ _ (grown .before .fresh-state .ensures) (grown .read-node .ensures) (not-true _ (c .before .if2 .taken)) in
     c .refused2 .ensures ∙ ap readingOf law
 
 refuse-requires : tie.Need-refuse-requires
@@ -73,12 +72,11 @@ returns-3 c =
     let grown = c .before .before .before .before .before .before .before in
     let named = grown .before .before .before .before .before in
     let begun = named .before .before .before .before in
-    let s = begun .args .text .now in
-    let h = begun .args .head in
-    let cursor = begun .args .cursor in
     let good = not-false _ (grown .before .before .before .if1 .left) in
+    let fresh = named .before .fresh-names .ensures in
     let whole = not-false _ (c .before .before .before .before .before .if2 .left) in
-    let law = after-more s h cursor (begun .pre .0) _ _ (named .before .fresh-names .ensures) (named .read-names .ensures) good _ _ (grown .before .fresh-state .ensures) (grown .read-node .ensures) whole (c .before .before .if3 .taken) in
+    let law = after-more (begun .args .text .now) (begun .args .head) (begun .args .cursor) (begun .pre .0) _ _ fresh (named .read-names .ensures) good
+    _ _ (grown .before .fresh-state .ensures) (grown .read-node .ensures) whole (c .before .before .if3 .taken) in
     c .refused3 .ensures ∙ ap readingOf (ap refused (c .before .refuse .ensures) ∙ law)
 
 no-refusal-requires : tie.Need-no-refusal-requires
@@ -89,14 +87,14 @@ returns-4 c =
     let grown = c .before .before .before .before .before .before .before .before in
     let named = grown .before .before .before .before .before in
     let begun = named .before .before .before .before in
-    let s = begun .args .text .now in
-    let h = begun .args .head in
-    let cursor = begun .args .cursor in
     let good = not-false _ (grown .before .before .before .if1 .left) in
+    let fresh = named .before .fresh-names .ensures in
     let whole = not-false _ (c .before .before .before .before .before .before .if2 .left) in
-    let none = c .no-refusal .ensures in
-    after-all s h cursor (begun .pre .0) _ _ (named .before .fresh-names .ensures) (named .read-names .ensures) good _ _ (grown .before .fresh-state .ensures) (grown .read-node .ensures) whole _ (c .before .before .before .if3 .left)
-    (λ i. record { refusal = none i; head = h; names = named .read-names .result .names; count = grown .read-node .result .count; nodes = grown .read-node .result .nodes })
+    let names = named .read-names .result .names in
+    let state = grown .read-node .result in
+    after-all (begun .args .text .now) (begun .args .head) (begun .args .cursor) (begun .pre .0) _ _ fresh (named .read-names .ensures) good
+    _ _ (grown .before .fresh-state .ensures) (grown .read-node .ensures) whole _ (c .before .before .before .if3 .left)
+    (λ i. record { refusal = c .no-refusal .ensures i; head = begun .args .head; names = names; count = state .count; nodes = state .nodes })
 
 pub after-head-spec : {M : Type 1} → statement M
 after-head-spec =

@@ -1,5 +1,5 @@
 -- `first_head`: the frame on the first line, then the rule of the head over its bytes. Assumes nothing.
-use mathlib.Core.Path.{_≡_, sym, _∙_}
+use mathlib.Core.Path.{sym, _∙_}
 use borrow.Author.Needs.{needs}
 use Rattle.reading.specs.Frames.{firstLine, frameIn}
 use Rattle.reading.specs.Working.{restAt}

@@ -1,5 +1,4 @@
 -- `frame_of`: the row of each first byte, and none for any other. Assumes nothing.
-use mathlib.Core.Path.{_≡_, _∙_}
 use borrow.Author.Needs.{needs}
 use borrow.Author.Tests.{ne-eqb}
 use Rattle.reading.specs.Frames.{table, frameFrom}

@@ -1,5 +1,5 @@
 -- `read_names`: the number of names that are left falls. Each return is one law over what the calls gave. Assumes nothing.
-use mathlib.Core.Path.{_≡_, refl, sym, ap, _∙_}
+use mathlib.Core.Path.{refl}
 use native.Mathlib.Omega.{arith}
 use borrow.Author.Needs.{needs}
 use Rattle.reading.proofs.Naming.{names-none, names-refused, name-whole, names-on}
@@ -30,7 +30,20 @@ read-names-below t =
 
 -- what `read-names` calls
 abbrev read-names-calls : ℕ → read-names-lts.Claims
-read-names-calls t = (next-name-reads.Asked, next-name-reads.Learnt, refuse-reads.Asked, refuse-reads.Learnt, refused-reads.Asked, refused-reads.Learnt, give-reads.Asked, give-reads.Learnt, past-reads.Asked, past-reads.Learnt, read-names-below t, read-names.Post)
+read-names-calls t = (
+  next-name-reads.Asked,
+  next-name-reads.Learnt,
+  refuse-reads.Asked,
+  refuse-reads.Learnt,
+  refused-reads.Asked,
+  refused-reads.Learnt,
+  give-reads.Asked,
+  give-reads.Learnt,
+  past-reads.Asked,
+  past-reads.Learnt,
+  read-names-below t,
+  read-names.Post,
+)
 
 read-names-returns : (t : ℕ) → read-names-lts.Need-returns (read-names-calls t) (read-names-at t) read-names.Post
 read-names-returns t c =
@@ -58,8 +71,11 @@ read-names-give-requires t c κs = tt
 read-names-past-requires : (t : ℕ) → read-names-lts.Need-past-requires (read-names-calls t) (read-names-at t) read-names.Post
 read-names-past-requires t c κs =
     let start = c .before .before .before .before .before .before .before .before .before in
-    let whole = name-whole (start .args .text .now) (start .args .head) (start .args .many) (start .args .least) (start .args .state) (start .args .state)
-    (c .before .before .before .before .before .before .before .if1 .left) _ (c .before .before .before .before .before .next-name .ensures) _ (c .before .before .before .free .given .1) in
+    let said = c .before .before .before .before .before in
+    let more = said .before .before .if1 .left in
+    let found = c .before .before .before .free .given .1 in
+    let st = start .args .state in
+    let whole = name-whole (start .args .text .now) (start .args .head) (start .args .many) (start .args .least) st st more _ (said .next-name .ensures) _ found in
     (start .pre .1 .0, whole .1)
 
 read-names-mul-free : (t : ℕ) → read-names-lts.Need-mul-free (read-names-calls t) (read-names-at t) read-names.Post
@@ -88,15 +104,20 @@ read-names-read-names-requires t c κs =
 read-names-returns-2 : (t : ℕ) → read-names-lts.Need-returns-2 (read-names-calls t) (read-names-at t) read-names.Post
 read-names-returns-2 t c =
     let start = c .before .before .before .before .before .before .before .before .before in
-    names-refused (start .args .text .now) (start .args .head) _ _ (start .args .state) _ (c .before .before .before .before .before .before .before .if1 .left) _ (c .before .before .before .before .before .next-name .ensures)
-    _ _ (c .before .before .before .number .given .1) (c .before .refuse .ensures) (c .refused .ensures)
+    let said = c .before .before .before .before .before in
+    let more = said .before .before .if1 .left in
+    let faulty = c .before .before .before .number .given .1 in
+    names-refused (start .args .text .now) (start .args .head) _ _ (start .args .state) _ more _ (said .next-name .ensures) _ _ faulty
+    (c .before .refuse .ensures) (c .refused .ensures)
 
 read-names-returns-3 : (t : ℕ) → read-names-lts.Need-returns-3 (read-names-calls t) (read-names-at t) read-names.Post
 read-names-returns-3 t c =
-    let start = c .before .before .before .before .before .before .before .before .before .before .before in
     let said = c .before .before .before .before .before .before .before in
-    names-on (start .args .text .now) (start .args .head) _ _ (start .args .state) _ (said .before .before .if1 .left) _ (said .next-name .ensures)
-    _ (c .before .before .before .before .before .free .given .1) _ (c .before .past .ensures .0) refl refl (c .before .before .give .ensures) (c .read-names .ensures)
+    let start = said .before .before .before .before in
+    let more = said .before .before .if1 .left in
+    let found = c .before .before .before .before .before .free .given .1 in
+    names-on (start .args .text .now) (start .args .head) _ _ (start .args .state) _ more _ (said .next-name .ensures) _ found
+    _ (c .before .past .ensures .0) refl refl (c .before .before .give .ensures) (c .read-names .ensures)
 
 pub +read-names-spec : {M : Type 1} → statement M
 +read-names-spec = close μ-read-names λ t. read-names-lts.spec (read-names-calls t)

@@ -1,5 +1,5 @@
 -- `next_name`: the frame on the line, then the rule of a free name over its bytes. Assumes nothing.
-use mathlib.Core.Path.{_≡_, sym, _∙_}
+use mathlib.Core.Path.{sym, _∙_}
 use borrow.Author.Needs.{needs}
 use Rattle.reading.specs.Frames.{freeNames, frameIn}
 use Rattle.reading.specs.Working.{restAt}

@@ -1,5 +1,4 @@
 -- `head_in`: the rule, over the frame's bytes, under the tests that led to each return. Assumes nothing.
-use mathlib.Core.Path.{_≡_, _∙_}
 use borrow.Author.Needs.{needs}
 use Rattle.reading.specs.Rules.{headRule}
 use borrow.Author.Tests.{eq-eqb, ne-eqb}

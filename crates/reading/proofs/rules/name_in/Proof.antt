@@ -1,5 +1,5 @@
 -- `name_in`: the rule, over the frame's bytes. Assumes nothing.
-use mathlib.Core.Path.{_≡_, _∙_}
+use mathlib.Core.Path.{_∙_}
 use borrow.Author.Needs.{needs}
 use Rattle.reading.proofs.rules.name_in.Statement.{statement}
 use Rattle.reading.proofs.rules.name_in.Tie as tie

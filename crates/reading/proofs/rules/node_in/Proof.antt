@@ -1,5 +1,5 @@
 -- `node_in`: by cases on the kind, whose frame has the bytes that its rule asks for. Assumes nothing.
-use mathlib.Core.Path.{_≡_, ap, _∙_}
+use mathlib.Core.Path.{ap, _∙_}
 use native.Mathlib.Omega.{arith}
 use borrow.Author.Needs.{needs}
 use Rattle.reading.specs.Working.{stepOf}

@@ -1,5 +1,6 @@
 -- `outside_limits`: each return is the definition's answer under the tests that led to it. Assumes nothing.
 use Rattle.reading.specs.Rules.{outsideLimits}
+use borrow.Author.Needs.{needs}
 use Rattle.reading.proofs.Tests.{tests}
 use Rattle.reading.proofs.rules.outside_limits.Statement.{statement}
 use Rattle.reading.proofs.rules.outside_limits.Tie as tie
@@ -24,5 +25,8 @@ returns-5 : tie.Need-returns-5
 unfolding outsideLimits
 returns-5 c = search tests
 
+cast-result : tie.Need-cast-result
+cast-result c = search needs
+
 pub outside-limits-spec : {M : Type 1} → statement M
-outside-limits-spec = tie.close (tie.spec returns returns-2 returns-3 returns-4 returns-5)
+outside-limits-spec = tie.close (tie.spec returns returns-2 returns-3 returns-4 cast-result returns-5)

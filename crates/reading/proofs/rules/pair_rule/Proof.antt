@@ -2,7 +2,7 @@
 use Rattle.reading.specs.Rules.{pairRule}
 use Rattle.reading.proofs.Tests.{tests}
 use borrow.Author.Tests.{le-ltb}
-use mathlib.Core.Path.{_≡_, sym, _∙_}
+use mathlib.Core.Path.{sym, _∙_}
 use borrow.Author.Needs.{needs}
 use Rattle.reading.proofs.rules.pair_rule.Statement.{statement}
 use Rattle.reading.proofs.rules.pair_rule.Tie as tie

@@ -2,7 +2,7 @@
 use Rattle.reading.specs.Rules.{receiveRule}
 use Rattle.reading.proofs.Tests.{tests}
 use borrow.Author.Tests.{le-ltb, lt-leb}
-use mathlib.Core.Path.{_≡_, sym, _∙_}
+use mathlib.Core.Path.{sym, _∙_}
 use borrow.Author.Needs.{needs}
 use Rattle.reading.proofs.rules.receive_rule.Statement.{statement}
 use Rattle.reading.proofs.rules.receive_rule.Tie as tie

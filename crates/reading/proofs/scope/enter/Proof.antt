@@ -1,5 +1,4 @@
 -- `enter`: by cases on the node, as the definition goes. Assumes nothing.
-use mathlib.Core.Path.{_≡_, _∙_}
 use borrow.Author.Needs.{needs}
 use Rattle.reading.proofs.scope.enter.Statement.{statement}
 use Rattle.reading.proofs.scope.enter.Tie as tie

@@ -1,5 +1,4 @@
 -- `give`: one place of the array is stored to. Assumes nothing.
-use mathlib.Core.Path.{_≡_, _∙_}
 use borrow.Author.Needs.{needs}
 use Rattle.reading.proofs.Scopes.{given-at}
 use Rattle.reading.proofs.scope.give.Statement.{statement}

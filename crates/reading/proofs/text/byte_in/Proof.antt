@@ -1,5 +1,4 @@
 -- `byte_in`: the byte's two digits stand in the text, at twice its number from the line's start. Assumes nothing.
-use mathlib.Core.Path.{_≡_, sym, _∙_}
 use native.Mathlib.Omega.{arith}
 use borrow.Author.Needs.{needs}
 use Rattle.reading.proofs.Lines.{byte-fits, byte-at}

@@ -1,11 +1,11 @@
 -- `is_faulty`: the four tests of the definition, each from what stands in the text. Assumes nothing.
 use Prim.Native.Nat.{_-_, _%_}
-use mathlib.Core.Path.{_≡_, refl, sym, ap, _∙_}
+use mathlib.Core.Path.{_≡_, sym, _∙_}
 use native.Mathlib.Omega.{arith}
 use lib.ListN.{length}
 use borrow.Author.Needs.{needs}
 use borrow.Author.Tests.{not-true, not-false, eq-eqb, ne-eqb}
-use Rattle.reading.specs.Working.{lineAt, endAt}
+use Rattle.reading.specs.Working.{lineAt}
 use Rattle.reading.proofs.Lines.{faulty-unended, faulty-digits, faulty-size}
 use Rattle.reading.proofs.text.is_faulty.Statement.{statement}
 use Rattle.reading.proofs.text.is_faulty.Tie as tie

@@ -1,11 +1,11 @@
 -- `read_node` and `read_branches`: the depth falls from a node to its branches, twice that with one more for the branches.
 -- Each return is one law over what the calls gave. Assumes nothing.
-use mathlib.Core.Path.{_≡_, refl, sym, ap, _∙_}
+use mathlib.Core.Path.{refl}
 use native.Mathlib.Omega.{arith}
 use Rattle.reading.specs.Plan.{readTree}
 use Rattle.reading.specs.Working.{meaningIn, placeAt}
 use borrow.Author.Needs.{needs}
-use Rattle.reading.proofs.Growing.{grows-stands, branches-none, branches-one, branches-stop, branches-on, node-refused, node-found, node-grown}
+use Rattle.reading.proofs.Growing.{Found, grows-stands, branches-none, branches-one, branches-stop, branches-on, node-refused, node-found, node-grown}
 use Prim.Native.Nat.{ℕ, _+_, _*_, _<_}
 use borrow.Fn.Kinds.{In}
 use borrow.Fn.PlainCycle.{Measures, is, falls, and}
@@ -94,10 +94,9 @@ read-branches-read-node-requires-2 t c κs =
     let start = c .before .before .before .before .before in
     let s = start .args .text .now in
     let st = start .args .state in
-    let branch = readTree (start .args .depth) (start .args .head) (meaningIn (start .args .scope)) in
+    let outcome = readTree (start .args .depth) (start .args .head) (meaningIn (start .args .scope)) (st .count) (placeAt s (st .cursor)) in
     let first = c .before .before .read-node in
-    let stands = grows-stands s (st .nodes) (st .count) (branch (st .count) (placeAt s (st .cursor))) (first .result) (first .ensures) (c .if3 .taken) in
-    (omega arith, stands)
+    (omega arith, grows-stands s (st .nodes) (st .count) outcome (first .result) (first .ensures) (c .if3 .taken))
 
 read-branches-returns-3 : (t : ℕ) → read-branches-lts.Need-returns-3 (read-branches-calls t) (read-branches-at t) read-branches.Post
 read-branches-returns-3 t c =
@@ -105,7 +104,8 @@ read-branches-returns-3 t c =
     let s = start .args .text .now in
     let branch = readTree (start .args .depth) (start .args .head) (meaningIn (start .args .scope)) in
     let one = c .before .before .before in
-    branches-on s (start .args .state) branch _ (one .read-node .ensures) _ (one .before .if1 .left) (c .before .before .if2 .left) (c .before .if3 .taken) _ (c .read-node2 .ensures)
+    branches-on s (start .args .state) branch _ (one .read-node .ensures) _ (one .before .if1 .left) (c .before .before .if2 .left)
+    (c .before .if3 .taken) _ (c .read-node2 .ensures)
 
 read-branches-returns-4 : (t : ℕ) → read-branches-lts.Need-returns-4 (read-branches-calls t) (read-branches-at t) read-branches.Post
 read-branches-returns-4 t c =
@@ -114,6 +114,16 @@ read-branches-returns-4 t c =
     let branch = readTree (start .args .depth) (start .args .head) (meaningIn (start .args .scope)) in
     let one = c .before .before in
     branches-stop s (start .args .state) branch _ (one .read-node .ensures) _ (one .before .if1 .left) (c .before .if2 .left) (c .if3 .left)
+
+-- a node was found: its line is whole, and there was room and depth for it
+room-for : (t : ℕ) (told : read-node-lts.After-known-told2 (read-node-calls t) (read-node-at t) read-node.Post)
+    → let start = told .before .before .before .before .before .before in
+    Found (start .args .text .now) (start .args .state .cursor .at) (start .args .depth) (start .args .state .count)
+room-for t told =
+    let start = told .before .before .before .before .before .before in
+    let said = told .before .before .before .next-node .ensures in
+    node-found (start .args .text .now) (start .args .head) _ (start .args .depth) (start .args .state) (start .args .state) _ said _
+    (told .before .node .given .1)
 
 read-node-next-node-requires : (t : ℕ) → read-node-lts.Need-next-node-requires (read-node-calls t) (read-node-at t) read-node.Post
 read-node-next-node-requires t c κs = c .before .before .pre .1 .short
@@ -131,68 +141,47 @@ read-node-enum-known-node : (t : ℕ) → read-node-lts.Need-enum-known-node (re
 read-node-enum-known-node t c = search needs
 
 read-node-past-requires : (t : ℕ) → read-node-lts.Need-past-requires (read-node-calls t) (read-node-at t) read-node.Post
-read-node-past-requires t c κs =
-    let told = c in
-    let start = told .before .before .before .before .before .before in
-    let room = node-found (start .args .text .now) (start .args .head) _ (start .args .depth) (start .args .state) (start .args .state) _ (told .before .before .before .next-node .ensures) _ (told .before .node .given .1) in
-    (start .pre .1, room .inside)
+read-node-past-requires t c κs = (c .before .before .before .before .before .before .pre .1, room-for t c .inside)
 
 read-node-mul-t16 : (t : ℕ) → read-node-lts.Need-mul-t16 (read-node-calls t) (read-node-at t) read-node.Post
-read-node-mul-t16 t c =
-    let told = c .before in
-    let start = told .before .before .before .before .before .before in
-    let room = node-found (start .args .text .now) (start .args .head) _ (start .args .depth) (start .args .state) (start .args .state) _ (told .before .before .before .next-node .ensures) _ (told .before .node .given .1) in
-    omega (arith, room .room)
+read-node-mul-t16 t c = omega (arith, room-for t (c .before) .room)
 
 read-node-element-set-from-more : (t : ℕ) → read-node-lts.Need-element-set-from-more (read-node-calls t) (read-node-at t) read-node.Post
-read-node-element-set-from-more t c =
-    let told = c .before in
-    let start = told .before .before .before .before .before .before in
-    let room = node-found (start .args .text .now) (start .args .head) _ (start .args .depth) (start .args .state) (start .args .state) _ (told .before .before .before .next-node .ensures) _ (told .before .node .given .1) in
-    room .room
+read-node-element-set-from-more t c = room-for t (c .before) .room
 
 read-node-add-more : (t : ℕ) → read-node-lts.Need-add-more (read-node-calls t) (read-node-at t) read-node.Post
-read-node-add-more t c =
-    let told = c .before in
-    let start = told .before .before .before .before .before .before in
-    let room = node-found (start .args .text .now) (start .args .head) _ (start .args .depth) (start .args .state) (start .args .state) _ (told .before .before .before .next-node .ensures) _ (told .before .node .given .1) in
-    omega (arith, room .room)
+read-node-add-more t c = omega (arith, room-for t (c .before) .room)
 
 read-node-enter-requires : (t : ℕ) → read-node-lts.Need-enter-requires (read-node-calls t) (read-node-at t) read-node.Post
 read-node-enter-requires t c κs = tt
 
 read-node-sub-read-branches : (t : ℕ) → read-node-lts.Need-sub-read-branches (read-node-calls t) (read-node-at t) read-node.Post
-read-node-sub-read-branches t c =
-    let told = c .before .before in
-    let start = told .before .before .before .before .before .before in
-    let room = node-found (start .args .text .now) (start .args .head) _ (start .args .depth) (start .args .state) (start .args .state) _ (told .before .before .before .next-node .ensures) _ (told .before .node .given .1) in
-    let deep = room .deep in
-    omega arith
+read-node-sub-read-branches t c = let deep = room-for t (c .before .before) .deep in omega arith
 
 read-node-branches-of-requires : (t : ℕ) → read-node-lts.Need-branches-of-requires (read-node-calls t) (read-node-at t) read-node.Post
 read-node-branches-of-requires t c κs = tt
 
 read-node-read-branches-requires : (t : ℕ) → read-node-lts.Need-read-branches-requires (read-node-calls t) (read-node-at t) read-node.Post
 read-node-read-branches-requires t c κs =
-    let told = c .before .before .before in
-    let start = told .before .before .before .before .before .before in
-    let room = node-found (start .args .text .now) (start .args .head) _ (start .args .depth) (start .args .state) (start .args .state) _ (told .before .before .before .next-node .ensures) _ (told .before .node .given .1) in
-    let deep = room .deep in
+    let deep = room-for t (c .before .before .before) .deep in
     (omega arith, c .before .before .past .ensures .1)
 
 read-node-returns : (t : ℕ) → read-node-lts.Need-returns (read-node-calls t) (read-node-at t) read-node.Post
 read-node-returns t c =
-    let start = c .before .before .before .before .before .before .before .before in
-    node-refused (start .args .text .now) (start .args .head) _ (start .args .depth) (start .args .state) _ _ (c .before .before .before .before .before .next-node .ensures)
-    _ _ (c .before .before .before .number .given .1) (c .before .refuse .ensures) (c .refused .ensures)
+    let begun = c .before .before .before .before .before .before .before .before in
+    let said = c .before .before .before .before .before .next-node .ensures in
+    let faulty = c .before .before .before .number .given .1 in
+    node-refused (begun .args .text .now) (begun .args .head) _ (begun .args .depth) (begun .args .state) _ _ said _ _ faulty
+    (c .before .refuse .ensures) (c .refused .ensures)
 
 read-node-returns-2 : (t : ℕ) → read-node-lts.Need-returns-2 (read-node-calls t) (read-node-at t) read-node.Post
 read-node-returns-2 t c =
     let told = c .before .before .before .before in
-    let start = told .before .before .before .before .before .before in
+    let begun = told .before .before .before .before .before .before in
+    let said = told .before .before .before .next-node .ensures in
     let past = c .before .before .before .past .ensures in
-    node-grown (start .args .text .now) (start .args .head) _ (start .args .depth) (start .args .state) _ _ (told .before .before .before .next-node .ensures)
-    _ (told .before .node .given .1) _ _ _ (past .0) (past .1) refl refl refl (c .before .before .enter .ensures) (c .before .branches-of .ensures) (c .read-branches .ensures)
+    node-grown (begun .args .text .now) (begun .args .head) _ (begun .args .depth) (begun .args .state) _ _ said _ (told .before .node .given .1)
+    _ _ _ (past .0) (past .1) refl refl refl (c .before .before .enter .ensures) (c .before .branches-of .ensures) (c .read-branches .ensures)
 
 pub +read-branches+read-node-spec : {M : Type 1} → statement M
 +read-branches+read-node-spec = close μ-read-branches μ-read-node (λ t. read-branches-lts.spec (read-branches-calls t)

@@ -1,5 +1,5 @@
 -- `next_node`: the frame on the line, the tests of room and depth, then the rule of the node's kind. Assumes nothing.
-use mathlib.Core.Path.{_≡_, sym, ap, _∙_}
+use mathlib.Core.Path.{sym, ap, _∙_}
 use borrow.Author.Needs.{needs}
 use borrow.Author.Tests.{le-leb, lt-leb, eq-eqb, ne-eqb}
 use Rattle.reading.specs.Frames.{treeLines, frameIn}

@@ -1,0 +1,74 @@
+-- The edges of document 01 that concern reading, computed from the definitions alone: one row each, and one claim over the rows.
+-- Assumes nothing.
+use Prim.Native.Nat.{ℕ, zero, suc}
+use Prim.Native.Char.{code}
+use Prim.Native.String as S
+use Prim.Native.String.{String}
+use mathlib.Core.Path.{_≡_, refl}
+use mathlib.Core.Bool.{Bool, true, _&&_}
+use mathlib.Core.List.{List, [], _∷_, _++_}
+use lib.Dec.{eqb}
+use Rattle.reading.specs.Text.{linesOf, isDigit, valueOf, allDigits, isFaulty, bytesOf}
+use Rattle.reading.specs.Frames.{table, frameFrom, frameFor, frameIn}
+use Rattle.reading.specs.Rules.{outsideLimits, headRule, nameRule, pairRule, receiveRule, restrictionRule, bracketRule}
+use Rattle.reading.specs.Tree.{listing}
+use Rattle.reading.specs.Plan.{Outcome, refused, read, Plan, grow, readNames, nextNode, readTree, afterHead, readPlan, wrongLength, planIn}
+
+abbrev text : String → List ℕ
+text S.[] = []
+text (S._∷_ c s) = code c ∷ text s
+
+-- so many lines of one kind
+abbrev lines : ℕ → String → List ℕ
+lines zero l = []
+lines (suc n) l = text l ++ lines n l
+
+-- a tree of sums down to depth n, with as many leaves as there can be
+abbrev sums : ℕ → List ℕ
+sums zero = text "10\n"
+sums (suc n) = text "14\n" ++ (sums n ++ sums n)
+
+-- a text, with the number and the line of its refusal, or 0 and 0
+record Row : Type 0 where
+  said : List ℕ
+  number : ℕ
+  line : ℕ
+
+abbrev row : List ℕ → ℕ → ℕ → Row
+row said number line = record { said = said; number = number; line = line }
+
+rows : List Row
+rows =
+    row (text "") 1 0
+    ∷ row (text "010101000000\n10\n") 0 0
+    ∷ row (text "010101000000\n10") 2 2
+    ∷ row (text "0A") 2 1
+    ∷ row (text "0A\n") 2 1
+    ∷ row (text "010101000000\n10\n10\n") 13 3
+    ∷ row (text "010101000000\n10\nx") 13 3
+    ∷ row (text "010101000000\n") 12 2
+    ∷ row (text "010120000000\n10\n") 0 0
+    ∷ row (text "010121000000\n10\n") 6 1
+    ∷ row (text "010101000600\n10\n") 0 0
+    ∷ row (text "010101000700\n10\n") 6 1
+    ∷ row (text "010101000001\n023f00\n123f3f\n10\n") 0 0
+    ∷ row (text "010101000001\n024000\n10\n") 7 2
+    ∷ row (text "010101000000\n124000\n10\n") 7 2
+    ∷ row (text "010101000000\n123f00\n10\n") 9 2
+    ∷ row (text "010101000000\n11\n" ++ sums 7) 0 0
+    ∷ row (text "010101000000\n14\n10\n" ++ sums 7) 10 258
+    ∷ row (text "010101000000\n" ++ (lines 31 "11\n" ++ text "10\n")) 0 0
+    ∷ row (text "010101000000\n" ++ (lines 32 "11\n" ++ text "10\n")) 11 34
+    ∷ []
+
+abbrev answers : Outcome Plan → ℕ → ℕ → Bool
+answers (refused f) number line = eqb (f .number) number && eqb (f .line) line
+answers (read p) number line = eqb 0 number && eqb 0 line
+
+abbrev all : List Row → Bool
+all [] = true
+all (r ∷ rs) = answers (planIn (r .said)) (r .number) (r .line) && all rs
+
+edges : all rows ≡ true
+unfolding linesOf isDigit valueOf allDigits isFaulty bytesOf table frameFrom frameFor frameIn outsideLimits headRule nameRule pairRule receiveRule restrictionRule bracketRule listing grow readNames nextNode readTree afterHead readPlan wrongLength planIn rows
+edges = refl

@@ -1,0 +1,117 @@
+//! Vectors: the records that are stored beside the product's batch program,
+//! with this program's sheets for them.
+
+use crate::drawing::Drawing;
+use crate::reading::{read, LONGEST_TEXT};
+use crate::records::Record;
+use crate::solving::{solve, AMPLE_ROUNDS};
+
+/// How many random records the vectors have, and the seed that gives them.
+const RANDOM_RECORDS: usize = 3_000;
+const SEED: u64 = 2026;
+
+/// The plan of 251 nodes that takes 3,073 rounds.
+const RELAY: &[u8] = include_bytes!("../tests/plans/relay.plan");
+
+/// The plans with known sheets, and the texts at an edge, a word for a line.
+const KNOWN: &[&str] = &[
+    "010101000000 10",
+    "010102010102 020000 020101 15 1901 120001 10 1900 13000200 10",
+    "010102010102 020000 020101 15 1900 120001 10 1901 13000200 10",
+    "010102010102 020000 020101 15 1901 120001 10 1901 13000200 10",
+    "010102010102 020000 020101 15 120001 10 1900 13000200 10",
+    "010103040203 020000 020101 020202 18 \
+     15 1900 120001 120001 120102 10 \
+     15 1901 13000300 120303 10 \
+     1902 13000401 13040502 14 170405 120400 10 13040603 10",
+    "010101010001 020000 13000100 120000 10",
+    "010102000002 020000 020101 170001 120001 10",
+    "010101000000",
+    "010101000000 10 10",
+    "010120000000 10",
+    "010121000000 10",
+    "010100000000 10",
+    "010101200000 10",
+    "010101210000 10",
+    "010101000600 10",
+    "010101000700 10",
+    "010101000001 023f00 123f3f 10",
+    "010101000001 024000 10",
+    "010101000000 123f3f 10",
+    "010101000000 124000 10",
+    "010101000000 164000 10",
+    "010201000000 10",
+    "0101010000 10",
+    "010101000002 020000 020000 10",
+    "0A",
+];
+
+/// Every record of the vectors: the known plans and the edges, each answered
+/// one under the allowances around its count too, then the random ones.
+pub fn vectors() -> Vec<Record> {
+    let known = KNOWN.iter().map(|words| lines(words));
+    let texts = known.chain(edges()).chain([RELAY.to_vec()]);
+    let around = texts.flat_map(|text| {
+        let allowances = allowances(&text);
+        allowances.into_iter().map(move |allowance| Record {
+            text: text.clone(),
+            allowance,
+        })
+    });
+    around
+        .chain(Drawing::new(SEED).take(RANDOM_RECORDS))
+        .collect()
+}
+
+/// The edges that are long, or no lines of words.
+fn edges() -> Vec<Vec<u8>> {
+    let head = "010101000000 ";
+    let free: String = (0..64).map(|name| format!("02{name:02x}00 ")).collect();
+    let steps = "11 ".repeat(31);
+    let mut longest = lines("010101000000 10");
+    longest.resize(LONGEST_TEXT, b'z');
+    let mut longer = longest.clone();
+    longer.push(b'\n');
+    vec![
+        Vec::new(),
+        b"\n".to_vec(),
+        b"010101000000\n10".to_vec(),
+        b"010101000000\r\n10\r\n".to_vec(),
+        lines(&format!("010101000040 {free} 10")),
+        lines(&format!("010101000041 {free} 10")),
+        lines(&format!("{head}{}", bush(256))),
+        lines(&format!("{head}{}", bush(257))),
+        lines(&format!("{head}{steps} 10")),
+        lines(&format!("{head}{steps} 11 10")),
+        longest,
+        longer,
+    ]
+}
+
+/// The text whose lines are the words.
+fn lines(words: &str) -> Vec<u8> {
+    let lines = words.split_whitespace().map(|word| format!("{word}\n"));
+    lines.collect::<String>().into_bytes()
+}
+
+/// The words of a tree of exactly so many nodes and of small depth.
+fn bush(nodes: usize) -> String {
+    match nodes {
+        1 => "10 ".to_string(),
+        2 => "11 10 ".to_string(),
+        _ => {
+            let first = (nodes - 1) / 2;
+            "15 ".to_string() + &bush(first) + &bush(nodes - 1 - first)
+        }
+    }
+}
+
+/// The ample allowance, and for a plan that is taken 0 and those around its
+/// count.
+fn allowances(text: &[u8]) -> Vec<u16> {
+    let solved = read(text).ok().and_then(|plan| solve(&plan, AMPLE_ROUNDS));
+    match solved {
+        Some((_, count)) => vec![AMPLE_ROUNDS, 0, count - 1, count, count + 1],
+        None => vec![AMPLE_ROUNDS],
+    }
+}

@@ -1,0 +1,49 @@
+//! The vectors that are stored beside the product's batch program are those
+//! that this program makes, and they reach every refusal and every last line.
+
+use std::collections::BTreeSet;
+use std::fs;
+use std::path::PathBuf;
+
+use second::records;
+use second::sheet::sheet;
+use second::vectors::vectors;
+
+/// The bytes of a file of the product's batch program.
+fn stored(name: &str) -> Vec<u8> {
+    let root = PathBuf::from(env!("CARGO_MANIFEST_DIR"));
+    let path = root.join("../crates/batch").join(name);
+    fs::read(&path).unwrap_or_else(|error| panic!("{}: {error}", path.display()))
+}
+
+#[test]
+fn stored_records_and_sheets_are_the_ones_made_here() {
+    let mut made = Vec::new();
+    let mut answers = String::new();
+    for record in vectors() {
+        records::write(&record, &mut made).expect("a vector takes all bytes");
+        answers += &sheet(&record.text, record.allowance);
+    }
+    assert!(made == stored("stdin"), "crates/batch/stdin is another");
+    assert!(
+        answers.as_bytes() == stored("stdout"),
+        "crates/batch/stdout is another"
+    );
+}
+
+#[test]
+fn vectors_reach_every_refusal_and_every_last_line() {
+    let sheets = vectors()
+        .into_iter()
+        .map(|record| sheet(&record.text, record.allowance));
+    let mut refusals = BTreeSet::new();
+    let mut phrases = BTreeSet::new();
+    for sheet in sheets {
+        if let Some(refusal) = sheet.strip_prefix("3f") {
+            refusals.insert(u8::from_str_radix(&refusal[..2], 16).expect("two digits"));
+        }
+        phrases.extend(sheet.lines().last().map(str::to_string));
+    }
+    assert_eq!(refusals, (1..=14).collect());
+    assert_eq!(phrases.len(), 3);
+}
