@@ -1,6 +1,6 @@
-// Rows of sets, lent. Part of a row is one set for each of the 32 channels; `base` and `start` say where such a part begins.
+// Rows of sets, lent, of any length. Part of a row is one set for each of the 32 channels; `base` and `start` say where such a part begins.
 ghost use mathlib.Core.Path.{_≡_};
-ghost use Prim.Native.Nat.{_+_, _≤_, _<_};
+ghost use Prim.Native.Nat.{_+_, _≤_};
 ghost use lib.ListN.{length};
 ghost use Rattle.sets.specs.Set.{Has, Members, Decides};
 ghost use Rattle.sets.specs.Rows.{Joins, Over, From, Together};
@@ -8,10 +8,10 @@ use crate::least;
 use crate::without;
 
 // `set` is joined to what stands at each channel of `channels` from `base` on.
-pub fn spread(row: &mut [u32; 256], base: usize, channels: u32, set: u32)
-    requires { ⌜ (base + 32 ≤ 256) × (length (now row) ≡ 256) ⌝ }
+pub fn spread(row: &mut [u32], base: usize, channels: u32, set: u32)
+    requires { ⌜ base + 32 ≤ length (now row) ⌝ }
     ensures { λ r. ⌜ Joins (now (row .entry)) (now (row .exit)) (Over base (Has channels) (λ c. Has set)) ⌝ }
-    ensures { λ r. ⌜ length (now (row .exit)) ≡ 256 ⌝ }
+    ensures { λ r. ⌜ length (now (row .exit)) ≡ length (now (row .entry)) ⌝ }
 {
     let mut left = channels;
     while left != 0 {
@@ -22,23 +22,25 @@ pub fn spread(row: &mut [u32; 256], base: usize, channels: u32, set: u32)
     }
 }
 
-// What stands at each of the 32 channels from `start` on in `from` is joined to what stands at it from `base` on in `row`.
-pub fn merge(row: &mut [u32; 256], base: usize, from: &[u32; 256], start: usize)
-    requires { ⌜ (base + 32 ≤ 256) × (start + 32 ≤ 256) × (length (now row) ≡ 256) ⌝ }
-    ensures { λ r. ⌜ Joins (now (row .entry)) (now (row .exit)) (Over base (λ c. c < 32) (From (now (from .entry)) start)) ⌝ }
-    ensures { λ r. ⌜ length (now (row .exit)) ≡ 256 ⌝ }
+// What stands at each channel of `channels` from `start` on in `from` is joined to what stands at it from `base` on in `row`.
+pub fn merge(row: &mut [u32], base: usize, from: &[u32], start: usize, channels: u32)
+    requires { ⌜ (base + 32 ≤ length (now row)) × (start + 32 ≤ length (now from)) ⌝ }
+    ensures { λ r. ⌜ Joins (now (row .entry)) (now (row .exit)) (Over base (Has channels) (From (now (from .entry)) start)) ⌝ }
+    ensures { λ r. ⌜ length (now (row .exit)) ≡ length (now (row .entry)) ⌝ }
 {
-    let mut c: usize = 0;
-    while c < 32 {
-        let at = base + c;
-        row[at] = row[at] | from[start + c];
-        c += 1;
+    let mut left = channels;
+    while left != 0 {
+        let c = least(left);
+        let i = c as usize;
+        let at = base + i;
+        row[at] = row[at] | from[start + i];
+        left = without(left, c);
     }
 }
 
 // The union of what stands at the channels of `channels` from `start` on.
-pub fn together(from: &[u32; 256], start: usize, channels: u32) -> u32
-    requires { ⌜ start + 32 ≤ 256 ⌝ }
+pub fn together(from: &[u32], start: usize, channels: u32) -> u32
+    requires { ⌜ start + 32 ≤ length (now from) ⌝ }
     ensures { λ r. ⌜ Members r (Together (now (from .entry)) start (Has channels)) ⌝ }
 {
     let mut all: u32 = 0;

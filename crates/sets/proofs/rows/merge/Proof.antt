@@ -1,25 +1,34 @@
--- After c turns the channels below c are merged.
+-- While channels are left, the row has what stands in the other row joined in at the channels taken; each turn takes the least of those left.
 -- Assumes nothing.
-use mathlib.Core.Path.{_≡_, subst, _∙_}
-use Prim.Native.Nat.{ℕ, _+_, _-_, _≤_, _<_}
+use mathlib.Core.Path.{_≡_, _∙_}
+use Prim.Native.Nat.{_+_}
 use native.Mathlib.Omega.{arith}
 use lib.ListN.{length, getD, length-set}
+use Rattle.sets.specs.Set.{Has, Subset}
 use Rattle.sets.specs.Rows.{Joins, Over, From}
 use Rattle.sets.proofs.Members.{members-own}
-use Rattle.sets.proofs.Taking.{below-more, over-none, over-more}
+use Rattle.sets.proofs.Taking.{Taken, taken-none, taken-all, taken-more, left-subset, over-none, over-more, over-same}
 use Rattle.sets.proofs.rows.merge.Statement.{statement}
 use Rattle.sets.proofs.rows.merge.Tie as tie
 
 abbrev Inv-loop : tie.InvT-loop
-Inv-loop row₀ base from start c₀ row c = (c ≤ 32) × (length row ≡ 256) × Joins row₀ row (Over base (λ k. k < c) (From from start))
+Inv-loop row₀ base from start channels left₀ row left =
+    Subset left channels × (length row ≡ length row₀) × Joins row₀ row (Over base (Taken channels left) (From from start))
 
 abbrev μ-loop : tie.MeasureT-loop
-μ-loop row₀ base from start c₀ row c = 32 - c
+μ-loop row₀ base from start channels left₀ row left = left
 
 loop-holds : tie.Need-loop-holds Inv-loop μ-loop
 loop-holds c =
-    let a = c .args in
-    (omega arith, omega arith, over-none {P = λ k. k < 0} (From (a .from .now) (a .start)) (a .row .now) (a .base) (λ k l. omega arith))
+    let a = c .before .before .args in
+    let none = over-none {P = Taken (a .channels) (a .channels)} (From (a .from .now) (a .start)) (a .row .now) (a .base) (taken-none (a .channels)) in
+    ((λ k h. h), omega arith, none)
+
+least-requires : tie.Need-least-requires Inv-loop μ-loop
+least-requires c κs = omega arith
+
+cast-i : tie.Need-cast-i Inv-loop μ-loop
+cast-i c = omega arith
 
 add-at : tie.Need-add-at Inv-loop μ-loop
 add-at c = omega arith
@@ -27,8 +36,8 @@ add-at c = omega arith
 mul-row : tie.Need-mul-row Inv-loop μ-loop
 mul-row c = omega arith
 
-element-copy-out-row : tie.Need-element-copy-out-row Inv-loop μ-loop
-element-copy-out-row c = omega arith
+slice-read-row : tie.Need-slice-read-row Inv-loop μ-loop
+slice-read-row c = omega arith
 
 add-row : tie.Need-add-row Inv-loop μ-loop
 add-row c = omega arith
@@ -36,38 +45,44 @@ add-row c = omega arith
 mul-row-2 : tie.Need-mul-row-2 Inv-loop μ-loop
 mul-row-2 c = omega arith
 
-element-copy-out-row-2 : tie.Need-element-copy-out-row-2 Inv-loop μ-loop
-element-copy-out-row-2 c = omega arith
+shared-slice-read-row : tie.Need-shared-slice-read-row Inv-loop μ-loop
+shared-slice-read-row c = omega arith
 
 mul-row-3 : tie.Need-mul-row-3 Inv-loop μ-loop
 mul-row-3 c = omega arith
 
-element-write-row : tie.Need-element-write-row Inv-loop μ-loop
-element-write-row c = omega arith
+slice-write-row : tie.Need-slice-write-row Inv-loop μ-loop
+slice-write-row c = omega arith
 
-add-c : tie.Need-add-c Inv-loop μ-loop
-add-c c = omega arith
+without-requires : tie.Need-without-requires Inv-loop μ-loop
+without-requires c κs = (c .before .before .least .ensures .1, c .before .before .least .ensures .0 .has)
 
 loop-less : tie.Need-loop-less Inv-loop μ-loop
-loop-less c = omega arith
+loop-less c = c .without .ensures .less
 
 loop-again : tie.Need-loop-again Inv-loop μ-loop
 loop-again c =
-    let a = c .before .before .before .before .args in
-    let at = c .before .before .before .loop in
-    let v = getD (a .from .now) (a .start + at .c) 0 in (
-      omega arith,
+    let a = c .before .before .before .before .before .before .before .before .args in
+    let at = c .before .before .before .before .before .loop in
+    let l = c .before .before .before .least in
+    let r = c .without in
+    let more = taken-more (a .channels) (at .left) (l .result) (r .result) (at .inv .0) (r .ensures) (l .ensures .0 .has) in
+    let v = getD (a .from .now) (a .start + l .result) 0 in (
+      left-subset (a .channels) (at .left) (l .result) (r .result) (at .inv .0) (r .ensures),
       length-set (at .row) _ _ ∙ at .inv .1,
-      over-more {P = λ k. k < at .c} {U = λ k. k < at .c + 1} (at .c) (below-more (at .c)) (From (a .from .now) (a .start)) (a .base)
-          (at .row) v (members-own v) (omega arith) (at .inv .2),
+      over-more {P = Taken (a .channels) (at .left)} {U = Taken (a .channels) (r .result)} (l .result) more (From (a .from .now) (a .start))
+          (a .base) (at .row) v (members-own v) (omega arith) (at .inv .2),
     )
+
+same-length : tie.Need-same-length Inv-loop μ-loop
+same-length c = c .before .loop .inv .1
 
 returns : tie.Need-returns Inv-loop μ-loop
 returns c =
-    let a = c .before .before .args in
+    let a = c .before .before .before .before .args in
     let at = c .before .loop in
-    let upto : ℕ → Type 0 = λ n. Joins (a .row .now) (at .row) (Over (a .base) (λ k. k < n) (From (a .from .now) (a .start))) in
-    (subst upto (omega arith) (at .inv .2), at .inv .1)
+    let all = taken-all (a .channels) (at .left) (omega arith) in
+    (over-same {P = Taken (a .channels) (at .left)} {U = Has (a .channels)} all (From (a .from .now) (a .start)) (a .base) (at .inv .2), at .inv .1)
 
 pub merge-spec : {M : Type 1} → statement M
 merge-spec =
@@ -76,15 +91,18 @@ merge-spec =
     Inv-loop
     μ-loop
     loop-holds
+    least-requires
+    cast-i
     add-at
     mul-row
-    element-copy-out-row
+    slice-read-row
     add-row
     mul-row-2
-    element-copy-out-row-2
+    shared-slice-read-row
     mul-row-3
-    element-write-row
-    add-c
+    slice-write-row
+    without-requires
     loop-less
     loop-again
+    same-length
     returns)

@@ -12,14 +12,14 @@ use Rattle.sets.proofs.rows.spread.Tie as tie
 
 abbrev Inv-loop : tie.InvT-loop
 Inv-loop row₀ base channels set left₀ row left =
-    Subset left channels × (length row ≡ 256) × Joins row₀ row (Over base (Taken channels left) (λ c. Has set))
+    Subset left channels × (length row ≡ length row₀) × Joins row₀ row (Over base (Taken channels left) (λ c. Has set))
 
 abbrev μ-loop : tie.MeasureT-loop
 μ-loop row₀ base channels set left₀ row left = left
 
 loop-holds : tie.Need-loop-holds Inv-loop μ-loop
 loop-holds c =
-    let a = c .args in
+    let a = c .before .args in
     ((λ k h. h), omega arith, over-none {P = Taken (a .channels) (a .channels)} (λ k. Has (a .set)) (a .row .now) (a .base) (taken-none (a .channels)))
 
 least-requires : tie.Need-least-requires Inv-loop μ-loop
@@ -34,14 +34,14 @@ add-at c = omega arith
 mul-row : tie.Need-mul-row Inv-loop μ-loop
 mul-row c = omega arith
 
-element-copy-out-row : tie.Need-element-copy-out-row Inv-loop μ-loop
-element-copy-out-row c = omega arith
+slice-read-row : tie.Need-slice-read-row Inv-loop μ-loop
+slice-read-row c = omega arith
 
 mul-row-2 : tie.Need-mul-row-2 Inv-loop μ-loop
 mul-row-2 c = omega arith
 
-element-write-row : tie.Need-element-write-row Inv-loop μ-loop
-element-write-row c = omega arith
+slice-write-row : tie.Need-slice-write-row Inv-loop μ-loop
+slice-write-row c = omega arith
 
 without-requires : tie.Need-without-requires Inv-loop μ-loop
 without-requires c κs = (c .before .least .ensures .1, c .before .least .ensures .0 .has)
@@ -51,7 +51,7 @@ loop-less c = c .without .ensures .less
 
 loop-again : tie.Need-loop-again Inv-loop μ-loop
 loop-again c =
-    let a = c .before .before .before .before .before .args in
+    let a = c .before .before .before .before .before .before .args in
     let at = c .before .before .before .before .loop in
     let l = c .before .before .least in
     let r = c .without in
@@ -62,9 +62,12 @@ loop-again c =
           (at .row) (a .set) (members-own (a .set)) (omega arith) (at .inv .2),
     )
 
+same-length : tie.Need-same-length Inv-loop μ-loop
+same-length c = c .before .loop .inv .1
+
 returns : tie.Need-returns Inv-loop μ-loop
 returns c =
-    let a = c .before .before .args in
+    let a = c .before .before .before .args in
     let at = c .before .loop in
     let all = taken-all (a .channels) (at .left) (omega arith) in
     (over-same {P = Taken (a .channels) (at .left)} {U = Has (a .channels)} all (λ k. Has (a .set)) (a .base) (at .inv .2), at .inv .1)
@@ -80,10 +83,11 @@ spread-spec =
     cast-at
     add-at
     mul-row
-    element-copy-out-row
+    slice-read-row
     mul-row-2
-    element-write-row
+    slice-write-row
     without-requires
     loop-less
     loop-again
+    same-length
     returns)

@@ -15,7 +15,7 @@ abbrev μ-loop : tie.MeasureT-loop
 
 loop-holds : tie.Need-loop-holds Inv-loop μ-loop
 loop-holds c =
-    let a = c .args in
+    let a = c .before .args in
     ((λ k h. h), together-none {P = Taken (a .channels) (a .channels)} (a .from .now) (a .start) (taken-none (a .channels)))
 
 least-requires : tie.Need-least-requires Inv-loop μ-loop
@@ -30,8 +30,8 @@ add-all c = omega arith
 mul-all : tie.Need-mul-all Inv-loop μ-loop
 mul-all c = omega arith
 
-element-copy-out-all : tie.Need-element-copy-out-all Inv-loop μ-loop
-element-copy-out-all c = omega arith
+shared-slice-read-all : tie.Need-shared-slice-read-all Inv-loop μ-loop
+shared-slice-read-all c = omega arith
 
 without-requires : tie.Need-without-requires Inv-loop μ-loop
 without-requires c κs = (c .before .least .ensures .1, c .before .least .ensures .0 .has)
@@ -41,7 +41,7 @@ loop-less c = c .without .ensures .less
 
 loop-again : tie.Need-loop-again Inv-loop μ-loop
 loop-again c =
-    let a = c .before .before .before .before .before .args in
+    let a = c .before .before .before .before .before .before .args in
     let at = c .before .before .before .before .loop in
     let l = c .before .before .least in
     let r = c .without in
@@ -53,7 +53,7 @@ loop-again c =
 
 returns : tie.Need-returns Inv-loop μ-loop
 returns c =
-    let a = c .before .before .args in
+    let a = c .before .before .before .args in
     let at = c .before .loop in
     let all = taken-all (a .channels) (at .left) (omega arith) in
     together-same {P = Taken (a .channels) (at .left)} {U = Has (a .channels)} all (a .from .now) (a .start) (at .all) (at .inv .1)
@@ -69,7 +69,7 @@ together-spec =
     cast-all
     add-all
     mul-all
-    element-copy-out-all
+    shared-slice-read-all
     without-requires
     loop-less
     loop-again

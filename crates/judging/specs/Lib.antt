@@ -1,0 +1,5 @@
+-- The verdict on a plan: document 01's 'Verdict', what judging answers, and demand 3.
+pub mod Verdict
+pub mod Judge
+pub mod Demand
+pub mod Compute

@@ -1,0 +1,38 @@
+-- Demand 2 over texts, and that the contract of `solve` admits one outcome only: the theorems on outcomes, at what reading promises
+-- of every text. Assumes nothing.
+use Prim.Native.Nat.{ℕ, _≤_}
+use mathlib.Core.Path.{_≡_, ap}
+use mathlib.Core.List.{List}
+use mathlib.Core.Logic.{_≢_}
+use native.Mathlib.Omega.{arith}
+use Rattle.reading.specs.declared.Refusal.{Refusal}
+use Rattle.reading.specs.Plan.{Outcome, refused, read, Plan, planIn}
+use Rattle.reading.specs.Promise.{Kept}
+use Rattle.reading.proofs.Promise.{kept}
+use Rattle.solving.specs.declared.Solved.{Solved}
+use Rattle.solving.specs.Solve.{Solves}
+use Rattle.solving.specs.Demand.{Demand}
+use Rattle.solving.specs.Compute.{solvedOf}
+use Rattle.solving.proofs.Promises.{solves-once, solves-computed, answered-at-ceiling, outcome-demand}
+
+-- any two outcomes that the contract admits are equal
+pub once : (text : List ℕ) (allowance : ℕ) (r q : Solved) → Solves (planIn text) allowance r → Solves (planIn text) allowance q → r ≡ q
+once text = solves-once (planIn text)
+
+-- it is the computed one
+pub solved-is : (text : List ℕ) (allowance : ℕ) (r : Solved) → Solves (planIn text) allowance r → r ≡ solvedOf (planIn text) allowance
+solved-is text allowance r = solves-computed (planIn text) allowance r (kept text)
+
+pub demand-2 : (text : List ℕ) (allowance : ℕ) (r : Solved) → Solves (planIn text) allowance r → Demand (planIn text) allowance r
+demand-2 text allowance r = outcome-demand (planIn text) allowance r (kept text)
+
+-- with an allowance of 17,409 no text is refused 14
+pub never-14 : (text : List ℕ) (allowance : ℕ) (r : Solved) → 17409 ≤ allowance → Solves (planIn text) allowance r → r .refusal .number ≢ 14
+never-14 text allowance r enough = go (planIn text) (kept text)
+  where
+    number : {f g : Refusal} → f ≡ g → f .number ≡ g .number
+    number e = ap (λ (f : Refusal). f .number) e
+
+    go : (o : Outcome Plan) → Kept o → Solves o allowance r → r .refusal .number ≢ 14
+    go (refused f) k s n = let e = ap (λ (q : Solved). q .refusal .number) s in let l = k .1 in omega arith
+    go (read plan) k s n = let e = number (answered-at-ceiling plan allowance r k enough s .refusal) in omega arith

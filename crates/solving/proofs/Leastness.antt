@@ -1,0 +1,50 @@
+-- The first round that adds nothing gives the least acceptable solution: every round stays within every acceptable one,
+-- and where nothing is added the sets are acceptable. The least is unique, and so is the count. Assumes nothing.
+use Prim.Native.Nat.{ℕ, zero, suc, _<_}
+use mathlib.Core.Path.{_≡_}
+use mathlib.Core.Logic.{_↔_, ⊎-elim}
+use native.Mathlib.Omega.{arith}
+use native.Mathlib.Decide.{decLt}
+use Rattle.reading.specs.Tree.{Tree}
+use Rattle.solving.specs.Solutions.{Fact, Sets, Contained, outermost}
+use Rattle.solving.specs.Clauses.{Acceptable}
+use Rattle.solving.specs.Rounds.{after, Settled, Count}
+use Rattle.solving.specs.Least.{Least}
+use Rattle.solving.proofs.Acceptance.{acceptable-iff, wants-grows}
+
+pub after-contained : (p : Tree) (t : Sets) → Acceptable p t → (n : ℕ) → Contained (after p n) t
+after-contained p t a zero f h = absurd h
+after-contained p t a (suc n) f h =
+    ⊎-elim (after-contained p t a n f)
+    (λ w. acceptable-iff p t .0 a f (wants-grows (after p n) t (after-contained p t a n) p outermost f w)) h
+
+pub first-quiet-round-least : (p : Tree) (n : ℕ) → Settled p (after p n) → Least p (after p n)
+first-quiet-round-least p n i = record {
+  acceptable = acceptable-iff p (after p n) .1 i;
+  least = λ t a. after-contained p t a n;
+}
+
+pub count-least : (p : Tree) (n : ℕ) (c : Count p n) → Least p (after p (c .earlier))
+count-least p n c = first-quiet-round-least p (c .earlier) (c .settled)
+
+pub least-unique : (p : Tree) (s t : Sets) → Least p s → Least p t → (f : Fact) → s f ↔ t f
+least-unique p s t a b f = (a .least t (b .acceptable) f, b .least s (a .acceptable) f)
+
+-- a solution with just the same members is as acceptable, and as least
+pub acceptable-same : (p : Tree) (s t : Sets) → ((f : Fact) → s f ↔ t f) → Acceptable p s → Acceptable p t
+acceptable-same p s t e a = acceptable-iff p t .1
+    (λ f w. e f .0 (acceptable-iff p s .0 a f (wants-grows t s (λ g. e g .1) p outermost f w)))
+
+pub least-same : (p : Tree) (s t : Sets) → ((f : Fact) → s f ↔ t f) → Least p s → Least p t
+least-same p s t e a = record {
+  acceptable = acceptable-same p s t e (a .acceptable);
+  least = λ u b f h. a .least u b f (e f .1 h);
+}
+
+pub count-unique : (p : Tree) (m n : ℕ) → Count p m → Count p n → m ≡ n
+count-unique p m n a b = go (decLt (a .earlier) (b .earlier)) (decLt (b .earlier) (a .earlier))
+  where
+    go : Dec (a .earlier < b .earlier) → Dec (b .earlier < a .earlier) → m ≡ n
+    go (yes h) e = absurd (b .first (a .earlier) h (a .settled))
+    go (no h) (yes k) = absurd (a .first (b .earlier) k (b .settled))
+    go (no h) (no k) = let x = a .is in let y = b .is in omega arith

@@ -1,0 +1,200 @@
+-- Rounds on the table are the rounds of the definition: what the table holds after n of them is what `after` says, and two
+-- tables are one where they hold the same, so a round that changes nothing is the first that adds nothing. Assumes nothing.
+use Prim.Native.Nat.{ℕ, suc, _+_, _-_, _*_, _/_, _%_, _<_, _≤_}
+use mathlib.Core.Path.{_≡_, refl, sym, ap, subst, subst⁻¹, _∙_}
+use mathlib.Core.List.{List, [], _∷_}
+use mathlib.Core.Logic.{_↔_, inl, inr, ⊎-elim, Iff·trans, Iff·symm}
+use native.Mathlib.Omega.{arith}
+use native.Mathlib.Decide.{ℕ-discrete, decLt}
+use lib.ListN.{length, getD, replicate, getD-replicate, length-replicate, List·getD-eq-default}
+use lib.Seq.{ext-getD}
+use Rattle.sets.specs.Set.{Has}
+use Rattle.sets.proofs.Members.{has-zero, same-members}
+use Rattle.reading.specs.declared.Head.{Head}
+use Rattle.reading.specs.declared.Slot.{Slot}
+use Rattle.reading.specs.Promise.{EachWithin}
+use Rattle.reading.specs.Plan.{noRefusal}
+use Rattle.reading.specs.Tree.{Tree, listing}
+use Rattle.solving.specs.declared.Solved.{Solved}
+use Rattle.solving.specs.Solutions.{Fact, binderSet, inSet, outSet, membersIn, outermost}
+use Rattle.solving.specs.Rounds.{Wanted, Settled, after, Count, Exceeds}
+use Rattle.solving.specs.Least.{Least}
+use Rattle.solving.specs.Solve.{Answered}
+use Rattle.solving.specs.Table.{tableSize, insAt, outsAt, inTable, Adds, Copied, Unpacked}
+use Rattle.solving.specs.Walk.{Stands, Spells, IsPlan, Ready}
+use Rattle.solving.proofs.Acceptance.{wants-grows}
+use Rattle.solving.proofs.Leastness.{count-least, least-same}
+use Rattle.solving.proofs.Ranges.{after-within}
+use Rattle.solving.proofs.Walks.{alone}
+
+-- ---- the round's walk may begin
+
+pub round-ready : (ns : List Slot) (old new : List ℕ) → length old ≡ tableSize → length new ≡ tableSize → IsPlan ns
+    → Ready 32 ns 0 outermost 1 old new
+round-ready ns old new zo zn w =
+    let s = w .1 .1 in
+    record {
+      head = w .0;
+      lent = record { fits = s .fits; leveled = inr refl; olds = zo; news = zn };
+      trees = w .1 .0 ∷ [];
+      many = refl;
+      planted = s .planted;
+    }
+
+pub spelled-stands : {h : Head} {ns : List Slot} {p : Tree} → Spells h ns p → Stands ns 0 (listing p)
+spelled-stands {h} {ns} {p} s = subst (Stands ns 0) (alone p) (s .planted .stands)
+
+pub spelled-within : {h : Head} {ns : List Slot} {p : Tree} → Spells h ns p → EachWithin h (listing p)
+spelled-within {h} {ns} {p} s = subst (EachWithin h) (alone p) (s .planted .within)
+
+-- ---- tables that hold the same are one
+
+zeros : (n i : ℕ) → _≡_ {A = ℕ} (getD (replicate n 0) i 0) 0
+zeros n i = go (decLt i n)
+  where
+    go : Dec (i < n) → _≡_ {A = ℕ} (getD (replicate n 0) i 0) 0
+    go (yes h) = getD-replicate n i 0 0 h
+    go (no h) = List·getD-eq-default (replicate n 0) 0 (let e : length (replicate {A = ℕ} n 0) ≡ n = length-replicate n 0 in omega arith)
+
+pub none-there : (n i o : ℕ) → Has (getD (replicate n 0) i 0) o → ⊥
+none-there n i o h = has-zero o (subst (λ k. Has k o) (zeros n i) h)
+
+pub empty-table : (f : Fact) → inTable (replicate tableSize 0) f → ⊥
+empty-table (binderSet b o) h = none-there tableSize b o (h .1)
+empty-table (inSet l c o) h = none-there tableSize (insAt l + c) o (h .2)
+empty-table (outSet l c o) h = none-there tableSize (outsAt l + c) o (h .2)
+
+module _ (a b : List ℕ) (same : (f : Fact) → inTable a f ↔ inTable b f) where
+  -- a level's sets from a start on
+  row-same : (start i : ℕ) → ((l c o : ℕ) → l < 8 → c < 32 → Has (getD a (start + l * 32 + c) 0) o ↔ Has (getD b (start + l * 32 + c) 0) o)
+      → start ≤ i → i < start + 256 → getD a i 0 ≡ getD b i 0
+  row-same start i h lo hi =
+      let l = (i - start) / 32 in
+      let c = (i - start) % 32 in
+      let e : start + l * 32 + c ≡ i = omega arith in
+      subst (λ k. getD a k 0 ≡ getD b k 0) e
+      (same-members (getD a (start + l * 32 + c) 0) (getD b (start + l * 32 + c) 0) (λ o. h l c o (omega arith) (omega arith)))
+
+  place-same : (i : ℕ) → i < tableSize → Dec (i < 32) → Dec (i < 288) → getD a i 0 ≡ getD b i 0
+  place-same i h (yes q) e = same-members (getD a i 0) (getD b i 0) (λ o. (
+    (λ x. same (binderSet i o) .0 (q, x) .1),
+    (λ x. same (binderSet i o) .1 (q, x) .1),
+  ))
+  place-same i h (no n) (yes q) = row-same 32 i (λ l c o p r. (
+    (λ x. same (inSet l c o) .0 (p, r, x) .2),
+    (λ x. same (inSet l c o) .1 (p, r, x) .2),
+  )) (omega arith) (omega arith)
+  place-same i h (no n) (no m) = row-same 288 i (λ l c o p r. (
+    (λ x. same (outSet l c o) .0 (p, r, x) .2),
+    (λ x. same (outSet l c o) .1 (p, r, x) .2),
+  )) (omega arith) (omega arith)
+
+  pub table-same : length a ≡ tableSize → length b ≡ tableSize → a ≡ b
+  table-same x y = ext-getD 0 a b (x ∙ sym y) (λ i l. place-same i (omega arith) (decLt i 32) (decLt i 288))
+
+-- ---- a table copied out to a solution
+
+pub unpacked : (t rb ri ro b i o : List ℕ) → length rb ≡ 32 → length ri ≡ 256 → length ro ≡ 256
+    → Copied rb t 0 b → Copied ri t 32 i → Copied ro t 288 o → Unpacked t (record { binders = b; ins = i; outs = o })
+unpacked t rb ri ro b i o lb li lo cb ci co = record {
+  same = same;
+  sized = record { binders = cb .sized ∙ lb; ins = ci .sized ∙ li; outs = co .sized ∙ lo };
+}
+  where
+    row : (start : ℕ) (from r : List ℕ) → length from ≡ 256 → Copied from t start r → (l c u : ℕ) → l < 8 → c < 32
+        → Has (getD r (l * 32 + c) 0) u ↔ Has (getD t (start + l * 32 + c) 0) u
+    row start from r long k l c u l8 c32 =
+        let at : start + (l * 32 + c) ≡ start + l * 32 + c = omega arith in
+        let e : getD r (l * 32 + c) 0 ≡ getD t (start + l * 32 + c) 0 =
+        k .copies (l * 32 + c) (omega arith) ∙ ap (λ (n : ℕ). getD t n 0) at in
+        (subst (λ s. Has s u) e, subst⁻¹ (λ s. Has s u) e)
+
+    same : (f : Fact) → membersIn (record { binders = b; ins = i; outs = o }) f ↔ inTable t f
+    same (binderSet d u) =
+        let e : d < 32 → getD b d 0 ≡ getD t d 0 = λ h.
+        cb .copies d (omega arith) ∙ ap (λ (n : ℕ). getD t n 0) (let z : 0 + d ≡ d = omega arith in z) in
+        ((λ h. (h .0, subst (λ s. Has s u) (e (h .0)) (h .1))), λ h. (h .0, subst⁻¹ (λ s. Has s u) (e (h .0)) (h .1)))
+    same (inSet l c u) = (
+      (λ h. (h .0, h .1, row 32 ri i li ci l c u (h .0) (h .1) .0 (h .2))),
+      (λ h. (h .0, h .1, row 32 ri i li ci l c u (h .0) (h .1) .1 (h .2))),
+    )
+    same (outSet l c u) = (
+      (λ h. (h .0, h .1, row 288 ro o lo co l c u (h .0) (h .1) .0 (h .2))),
+      (λ h. (h .0, h .1, row 288 ro o lo co l c u (h .0) (h .1) .1 (h .2))),
+    )
+
+-- ---- the table after some rounds
+
+pub record Reached (p : Tree) (n : ℕ) (t : List ℕ) : Type 0 where
+  pub holds : (f : Fact) → after p n f ↔ inTable t f
+  pub busy : (j : ℕ) → j < n → Settled p (after p j) → ⊥
+
+pub reached-none : (p : Tree) → Reached p 0 (replicate tableSize 0)
+reached-none p = record { holds = λ f. (absurd, λ x. absurd (empty-table f x)); busy = λ j l s. omega arith }
+
+module _ (p : Tree) (n : ℕ) (t u : List ℕ) (r : Reached p n t) (a : Adds t u (Wanted p (inTable t))) where
+  -- what is wanted of the sets is wanted of the table
+  wanted-same : (f : Fact) → Wanted p (after p n) f ↔ Wanted p (inTable t) f
+  wanted-same f = (
+    wants-grows (after p n) (inTable t) (λ g. r .holds g .0) p outermost f,
+    wants-grows (inTable t) (after p n) (λ g. r .holds g .1) p outermost f,
+  )
+
+  pub settled-if : u ≡ t → Settled p (after p n)
+  settled-if e f w = r .holds f .1 (subst (λ k. inTable k f) e (a .adds f .1 (inr (wanted-same f .0 w))))
+
+  pub same-if : length u ≡ tableSize → length t ≡ tableSize → Settled p (after p n) → u ≡ t
+  same-if x y s = table-same u t (λ f. (
+    (λ h. ⊎-elim (λ z. z) (λ w. r .holds f .0 (s f (wanted-same f .1 w))) (a .adds f .0 h)),
+    (λ h. a .adds f .1 (inl h)),
+  )) x y
+
+  pub reached-more : length u ≡ tableSize → length t ≡ tableSize → (u ≡ t → ⊥) → Reached p (n + 1) u
+  reached-more x y d = record { holds = subst (λ k. (f : Fact) → after p k f ↔ inTable u f) one-more grown; busy = busier }
+    where
+      one-more : suc n ≡ n + 1
+      one-more = omega arith
+
+      grown : (f : Fact) → after p (suc n) f ↔ inTable u f
+      grown f = (
+        (λ h. a .adds f .1 (⊎-elim (λ z. inl (r .holds f .0 z)) (λ w. inr (wanted-same f .0 w)) h)),
+        (λ h. ⊎-elim (λ z. inl (r .holds f .1 z)) (λ w. inr (wanted-same f .1 w)) (a .adds f .0 h)),
+      )
+
+      busier : (j : ℕ) → j < n + 1 → Settled p (after p j) → ⊥
+      busier j l s = go (ℕ-discrete j n)
+        where
+          go : Dec (j ≡ n) → ⊥
+          go (yes q) = d (same-if x y (subst (λ k. Settled p (after p k)) q s))
+          go (no q) = r .busy j (omega arith) s
+
+-- ---- the answers
+
+pub exceeds-if : (p : Tree) (allowance : ℕ) (t : List ℕ) → Reached p allowance t → Exceeds p allowance
+exceeds-if p allowance t r n c = go (decLt (c .earlier) allowance)
+  where
+    go : Dec (c .earlier < allowance) → allowance < n
+    go (yes q) = absurd (r .busy (c .earlier) q (c .settled))
+    go (no q) = let e = c .is in omega arith
+
+pub answered-by : (h : Head) (p : Tree) (allowance n : ℕ) (t : List ℕ) (r : Solved) → EachWithin h (listing p) → Reached p n t
+    → Settled p (after p n) → n < allowance → r .refusal ≡ noRefusal → r .head ≡ h → r .count ≡ n + 1 → Unpacked t (r .solution)
+    → Answered h p allowance r
+answered-by h p allowance n t r w e s l refusal head count u = record {
+  refusal = refusal;
+  head = head;
+  count = counted;
+  allowed = omega arith;
+  least = record { acceptable = least .acceptable; least = λ t. least .least (membersIn t) };
+  within = λ f m. after-within h p w n f (members f .1 m);
+  sized = u .sized;
+}
+  where
+    counted : Count p (r .count)
+    counted = record { earlier = n; is = omega arith; settled = s; first = e .busy }
+
+    members : (f : Fact) → after p n f ↔ membersIn (r .solution) f
+    members f = Iff·trans (e .holds f) (Iff·symm (u .same f))
+
+    least : Least p (membersIn (r .solution))
+    least = least-same p (after p n) (membersIn (r .solution)) members (count-least p (r .count) counted)

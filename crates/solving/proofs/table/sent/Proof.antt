@@ -1,0 +1,61 @@
+-- After some levels the union is of what was sent at those.
+-- Assumes nothing.
+use Prim.Native.Nat.{ℕ, _-_, _≤_}
+use mathlib.Core.Path.{subst}
+use native.Mathlib.Omega.{arith}
+use Rattle.sets.specs.Set.{Has, Members}
+use Rattle.sets.specs.Rows.{Together}
+use Rattle.solving.specs.Table.{outsAt, Sent}
+use Rattle.solving.proofs.Tables.{sent-none, sent-more}
+use Rattle.solving.proofs.table.sent.Statement.{statement}
+use Rattle.solving.proofs.table.sent.Tie as tie
+
+abbrev Inv-loop : tie.InvT-loop
+Inv-loop table channels all₀ level₀ all level = (level ≤ 8) × Members all (Sent table level (Has channels))
+
+abbrev μ-loop : tie.MeasureT-loop
+μ-loop table channels all₀ level₀ all level = 8 - level
+
+loop-holds : tie.Need-loop-holds Inv-loop μ-loop
+loop-holds c = (omega arith, sent-none (c .args .table .now) (Has (c .args .channels)))
+
+outs-at-requires : tie.Need-outs-at-requires Inv-loop μ-loop
+outs-at-requires c κs = omega arith
+
+together-requires : tie.Need-together-requires Inv-loop μ-loop
+together-requires c κs = omega (arith, c .outs-at .ensures)
+
+add-level : tie.Need-add-level Inv-loop μ-loop
+add-level c = omega arith
+
+loop-less : tie.Need-loop-less Inv-loop μ-loop
+loop-less c = omega arith
+
+loop-again : tie.Need-loop-again Inv-loop μ-loop
+loop-again c =
+    let a = c .before .before .before .before .before .args in
+    let at = c .before .before .before .before .loop in
+    let here = c .together in
+    let from : Members (here .result) (Together (a .table .now) (outsAt (at .level)) (Has (a .channels))) =
+    subst (λ (k : ℕ). Members (here .result) (Together (a .table .now) k (Has (a .channels)))) (c .before .outs-at .ensures) (here .ensures) in
+    (omega arith, sent-more (a .table .now) (Has (a .channels)) (at .level) (at .all) (here .result) (at .inv .1) from)
+
+returns : tie.Need-returns Inv-loop μ-loop
+returns c =
+    let a = c .before .before .args in
+    let at = c .before .loop in
+    subst (λ (k : ℕ). Members (at .all) (Sent (a .table .now) k (Has (a .channels)))) (omega arith) (at .inv .1)
+
+pub sent-spec : {M : Type 1} → statement M
+sent-spec =
+    tie.close
+    (tie.spec
+    Inv-loop
+    μ-loop
+    loop-holds
+    outs-at-requires
+    together-requires
+    add-level
+    loop-less
+    loop-again
+    returns)

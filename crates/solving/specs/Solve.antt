@@ -1,0 +1,46 @@
+-- What solving a text within an allowance of rounds answers.
+-- Assumes nothing.
+use Prim.Native.Nat.{ℕ, _≤_}
+use mathlib.Core.Path.{_≡_}
+use mathlib.Core.Logic.{_⊎_}
+use lib.ListN.{replicate}
+use Rattle.reading.specs.declared.Head.{Head}
+use Rattle.reading.specs.declared.Refusal.{Refusal}
+use Rattle.reading.specs.Plan.{Outcome, refused, read, Plan, noHead, noRefusal}
+use Rattle.reading.specs.Tree.{Tree}
+use Rattle.solving.specs.declared.Solution.{Solution}
+use Rattle.solving.specs.declared.Solved.{Solved}
+use Rattle.solving.specs.Solutions.{membersIn, LiesWithin, Sized}
+use Rattle.solving.specs.Rounds.{Count, Exceeds}
+use Rattle.solving.specs.Least.{LeastArrays}
+
+abbrev pub emptySolution : Solution
+emptySolution = record { binders = replicate 32 0; ins = replicate 256 0; outs = replicate 256 0 }
+
+-- a refusal: all sets empty, count 0
+abbrev pub refusedBy : Refusal → Solved
+refusedBy f = record { refusal = f; head = noHead; count = 0; solution = emptySolution }
+
+-- refusal 14: the round count exceeds the allowance
+abbrev pub overAllowance : Refusal
+overAllowance = record { number = 14; line = 0 }
+
+-- the count is within the allowance: the count, and the least acceptable solution
+pub record Answered (h : Head) (p : Tree) (allowance : ℕ) (r : Solved) : Type 0 where
+  pub refusal : r .refusal ≡ noRefusal
+  pub head : r .head ≡ h
+  pub count : Count p (r .count)
+  pub allowed : r .count ≤ allowance
+  pub least : LeastArrays p (r .solution)
+  pub within : LiesWithin h (membersIn (r .solution))
+  pub sized : Sized (r .solution)
+
+-- it exceeds the allowance: refusal 14
+pub record Over (p : Tree) (allowance : ℕ) (r : Solved) : Type 0 where
+  pub exceeds : Exceeds p allowance
+  pub is : r ≡ refusedBy overAllowance
+
+-- what is answered, by what the text reads as: refusals 1 to 13 are reading's
+abbrev pub Solves : Outcome Plan → ℕ → Solved → Type 0
+Solves (refused f) allowance r = r ≡ refusedBy f
+Solves (read plan) allowance r = Answered (plan .head) (plan .tree) allowance r ⊎ Over (plan .tree) allowance r

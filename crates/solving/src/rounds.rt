@@ -1,0 +1,78 @@
+// Rounds from empty sets, up to the first that adds nothing or to the end of the allowance.
+ghost use mathlib.Core.Path.{_≡_};
+ghost use Rattle.solving.specs.Solve.{refusedBy};
+ghost use Rattle.solving.specs.Walk.{Spelled, IsPlan, Rounded, Settles};
+use crate::Solution;
+use crate::Solved;
+use crate::table::Table;
+use crate::table::empty;
+use crate::table::solution_of;
+use crate::walk::walk_node;
+use reading::Head;
+use reading::Refusal;
+use reading::Slot;
+
+// The outermost level, # in document 000.
+const OUTERMOST: u8 = 7;
+
+// The most that a tree may be deep.
+const DEPTH: usize = 32;
+
+// The table after one round more: everything that the walk from the root wants is added, and every set is read as it was.
+fn round(nodes: [Slot; 256], table: Table) -> Table
+    requires { ⌜ IsPlan nodes ⌝ }
+    ensures { λ r. ⌜ Rounded nodes table r ⌝ }
+{
+    let old = table;
+    let mut new = table;
+    walk_node(DEPTH, nodes, 0, OUTERMOST, true, &old, &mut new);
+    new
+}
+
+// The answer under a refusal: nothing but its number and line.
+pub fn refused(refusal: Refusal) -> Solved
+    ensures { λ r. ⌜ r ≡ refusedBy refusal ⌝ }
+{
+    Solved {
+        refusal,
+        head: Head {
+            channels: 0,
+            binders: 0,
+            top: 0,
+            names: 0,
+        },
+        count: 0,
+        solution: Solution {
+            binders: [0; 32],
+            ins: [0; 256],
+            outs: [0; 256],
+        },
+    }
+}
+
+// Solves the plan with this head and these nodes: the count and the least acceptable solution, or refusal 14 where the
+// allowance is too small.
+pub fn settle(head: Head, nodes: [Slot; 256], allowance: u16) -> Solved
+    requires { ⌜ Spelled head nodes ⌝ }
+    ensures { λ r. ⌜ Settles head nodes allowance r ⌝ }
+{
+    let mut table = empty();
+    let mut count: u16 = 0;
+    while count < allowance {
+        let next = round(nodes, table);
+        count += 1;
+        if sets::rows::same(&next, &table) {
+            return Solved {
+                refusal: Refusal { number: 0, line: 0 },
+                head,
+                count,
+                solution: solution_of(&table),
+            };
+        }
+        table = next;
+    }
+    refused(Refusal {
+        number: 14,
+        line: 0,
+    })
+}
