@@ -28,8 +28,8 @@ pub struct Answer {
     pub verdict: Verdict,
 }
 
-// The number of the outermost level.
-const OUTERMOST: usize = 7;
+// The number of the outermost level, among places.
+const OUTERMOST: usize = solving::OUTERMOST as usize;
 
 // Whether level `low` is lower than level `high`: as numbers, among the levels 0 to `top`. The outermost level is comparable to none.
 fn is_lower(low: usize, high: usize, top: u8) -> bool

@@ -12,6 +12,9 @@ use reading::Refusal;
 use rounds::refused;
 use rounds::settle;
 
+// The outermost level, # in document 000.
+pub const OUTERMOST: u8 = 7;
+
 // A solution: a set of channels for each binder, and an in set and an out set for each level and channel, at level * 32 + channel.
 pub struct Solution {
     pub binders: [u32; 32],

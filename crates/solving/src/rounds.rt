@@ -2,6 +2,7 @@
 ghost use mathlib.Core.Path.{_≡_};
 ghost use Rattle.solving.specs.Solve.{refusedBy};
 ghost use Rattle.solving.specs.Walk.{Spelled, IsPlan, Rounded, Settles};
+use crate::OUTERMOST;
 use crate::Solution;
 use crate::Solved;
 use crate::table::Table;
@@ -11,9 +12,6 @@ use crate::walk::walk_node;
 use reading::Head;
 use reading::Refusal;
 use reading::Slot;
-
-// The outermost level, # in document 000.
-const OUTERMOST: u8 = 7;
 
 // The most that a tree may be deep.
 const DEPTH: usize = 32;
