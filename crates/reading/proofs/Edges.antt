@@ -70,5 +70,7 @@ all [] = true
 all (r ∷ rs) = answers (planIn (r .said)) (r .number) (r .line) && all rs
 
 edges : all rows ≡ true
-unfolding linesOf isDigit valueOf allDigits isFaulty bytesOf table frameFrom frameFor frameIn outsideLimits headRule nameRule pairRule receiveRule restrictionRule bracketRule listing grow readNames nextNode readTree afterHead readPlan wrongLength planIn rows
+unfolding linesOf isDigit valueOf allDigits isFaulty bytesOf table frameFrom frameFor frameIn
+    outsideLimits headRule nameRule pairRule receiveRule restrictionRule bracketRule listing
+    grow readNames nextNode readTree afterHead readPlan wrongLength planIn rows
 edges = refl
