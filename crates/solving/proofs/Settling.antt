@@ -34,6 +34,7 @@ pub round-ready : (ns : List Slot) (old new : List ℕ) → length old ≡ table
 round-ready ns old new zo zn w =
     let s = w .1 .1 in
     record {
+      few = omega arith;
       head = w .0;
       lent = record { fits = s .fits; leveled = inr refl; olds = zo; news = zn };
       trees = w .1 .0 ∷ [];

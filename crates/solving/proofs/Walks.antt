@@ -20,7 +20,7 @@ use Rattle.solving.specs.Table.{inTable, tableSize, Adds}
 use Rattle.solving.specs.Walk.{Condition, Own, branchesIn, levelIn, Able, Asked, Stepped, nodeAt, Stands, listings, EachDepth, SomeWants, Planted, Ready, Walked}
 use Rattle.solving.proofs.Ranges.{within-split}
 use Rattle.solving.proofs.Tables.{adds-none, adds-both, adds-same}
-use Rattle.solving.proofs.Trees.{nodeOf, branchesOf, tree-branches, tree-listing, tree-depth, tree-wants, level-inside}
+use Rattle.solving.proofs.Trees.{nodeOf, branchesOf, tree-branches, tree-listing, tree-depth, tree-wants, level-inside, few-branches}
 
 -- ---- nodes that stand in a row
 
@@ -90,7 +90,10 @@ branches-ready d ns at l live old new s then r st =
     let p = w .0 in
     let n = w .1 .node in
     let level : s .level ≡ levelIn (nodeOf p) l = st .level-in ∙ ap (λ (k : Node). levelIn k l) n in
+    let two = few-branches (nodeAt ns at) in
+    let b = st .branches in
     record {
+      few = omega arith;
       head = r .head;
       lent = record {
         fits = r .lent .fits;
@@ -111,6 +114,7 @@ first-ready d ns at l b old new b0 r = go (r .trees) (r .many) (r .planted)
     go : (ps : List Tree) → length ps ≡ b → Planted (r .head) d ns at ps → Ready d ns at l 1 old new
     go [] e w = absurd (b0 (sym e))
     go (p ∷ ps) e w = record {
+      few = omega arith;
       head = r .head;
       lent = r .lent;
       trees = p ∷ [];
@@ -122,7 +126,7 @@ first-ready d ns at l b old new b0 r = go (r .trees) (r .many) (r .planted)
       };
     }
 
-pub others-ready : (d : ℕ) (ns : List Slot) (at l b : ℕ) (live : Bool) (old new : List ℕ) (next : ℕ) (then : List ℕ) → b ≢ 0
+others-ready : (d : ℕ) (ns : List Slot) (at l b : ℕ) (live : Bool) (old new : List ℕ) (next : ℕ) (then : List ℕ) → b ≢ 0
     → Ready d ns at l b old new → Walked ns at l 1 live old new next then → Ready d ns next l (b - 1) old then
 others-ready d ns at l b live old new next then b0 r v = go (r .trees) (r .many) (r .planted)
   where
@@ -131,7 +135,9 @@ others-ready d ns at l b live old new next then b0 r v = go (r .trees) (r .many)
     go (p ∷ ps) e w =
         let s = stands-split ns at (listing p) (listings ps) (w .stands) in
         let n = v .next (p ∷ []) refl (subst⁻¹ (Stands ns at) (alone p) (s .0)) ∙ ap (λ (xs : List Node). at + length xs) (alone p) in
+        let f = r .few in
         record {
+          few = omega arith;
           head = r .head;
           lent = record { fits = r .lent .fits; leveled = r .lent .leveled; olds = r .lent .olds; news = v .sized };
           trees = ps;
@@ -142,6 +148,13 @@ others-ready d ns at l b live old new next then b0 r v = go (r .trees) (r .many)
             within = within-split (r .head) (listing p) (listings ps) (w .within) .1;
           };
         }
+
+-- the second of two
+pub second-ready : (d : ℕ) (ns : List Slot) (at l b : ℕ) (live : Bool) (old new : List ℕ) (next : ℕ) (then : List ℕ) → b ≡ 2
+    → Ready d ns at l b old new → Walked ns at l 1 live old new next then → Ready d ns next l 1 old then
+second-ready d ns at l b live old new next then e r v =
+    let other : b - 1 ≡ 1 = omega arith in
+    subst (λ k. Ready d ns next l k old then) other (others-ready d ns at l b live old new next then (λ z. omega arith) r v)
 
 -- ---- what is promised
 
@@ -156,7 +169,7 @@ walked-none ns at l b live old new b0 z = record { next = next; adds = adds; siz
     adds [] e h = adds-none new (λ f w. w .1)
     adds (p ∷ ps) e h = absurd (omega arith)
 
-pub walked-more : (ns : List Slot) (at l b : ℕ) (live : Bool) (old new : List ℕ) (m : ℕ) (mid : List ℕ) (r : ℕ) (then : List ℕ) → b ≢ 0
+walked-more : (ns : List Slot) (at l b : ℕ) (live : Bool) (old new : List ℕ) (m : ℕ) (mid : List ℕ) (r : ℕ) (then : List ℕ) → b ≢ 0
     → Walked ns at l 1 live old new m mid → Walked ns m l (b - 1) live old mid r then → Walked ns at l b live old new r then
 walked-more ns at l b live old new m mid r then b0 first others = record { next = next; adds = adds; sized = others .sized }
   where
@@ -184,6 +197,18 @@ walked-more ns at l b live old new m mid r then b0 first others = record { next 
           (λ w. ⊎-elim (λ x. inl (w .0, inl x)) (λ x. inr (w .0, x)) (w .1)),
           ⊎-elim (λ w. (w .0, ⊎-elim inl absurd (w .1))) (λ w. (w .0, inr (w .1))),
         ))
+
+-- one branch, and two
+pub walked-one : (ns : List Slot) (at l b : ℕ) (live : Bool) (old new : List ℕ) (r : ℕ) (then : List ℕ) → b ≡ 1
+    → Walked ns at l 1 live old new r then → Walked ns at l b live old new r then
+walked-one ns at l b live old new r then e w = subst⁻¹ (λ k. Walked ns at l k live old new r then) e w
+
+pub walked-two : (ns : List Slot) (at l b : ℕ) (live : Bool) (old new : List ℕ) (m : ℕ) (mid : List ℕ) (r : ℕ) (then : List ℕ) → b ≡ 2
+    → Walked ns at l 1 live old new m mid → Walked ns m l 1 live old mid r then → Walked ns at l b live old new r then
+walked-two ns at l b live old new m mid r then e first second =
+    let other : b - 1 ≡ 1 = omega arith in
+    let rest = subst⁻¹ (λ k. Walked ns m l k live old mid r then) other second in
+    walked-more ns at l b live old new m mid r then (λ z. omega arith) first rest
 
 pub walked-node : (ns : List Slot) (at l : ℕ) (live : Bool) (old new : List ℕ) (s : Step) (mid : List ℕ) (r : ℕ) (then : List ℕ)
     → Stepped (nodeAt ns at) l live old new s mid → Walked ns (at + 1) (s .level) (s .branches) (s .live) old mid r then

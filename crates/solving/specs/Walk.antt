@@ -131,8 +131,9 @@ pub record Planted (h : Head) (depth : ℕ) (ns : List Slot) (at : ℕ) (ps : Li
   pub deep : EachDepth depth ps
   pub within : EachWithin h (listings ps)
 
--- what the walk of `branches` trees needs
+-- what the walk of `branches` trees needs, two at most
 pub record Ready (depth : ℕ) (ns : List Slot) (at level branches : ℕ) (old new : List ℕ) : Type 0 where
+  pub few : branches ≤ 2
   pub head : Head
   pub lent : Lent head level old new
   pub trees : List Tree

@@ -32,7 +32,7 @@ pub fn walk_node(
     )
 }
 
-// Walks `branches` trees, the first at `at` and each of the others where the one before it ends.
+// Walks a node's branches, none, one or two: the first at `at`, the second where the first ends.
 fn walk_branches(
     depth: usize,
     nodes: [Slot; 256],
@@ -50,5 +50,8 @@ fn walk_branches(
         return at;
     }
     let next = walk_node(depth, nodes, at, level, live, old, new);
-    walk_branches(depth, nodes, next, level, live, branches - 1, old, new)
+    if branches == 1 {
+        return next;
+    }
+    walk_node(depth, nodes, next, level, live, old, new)
 }

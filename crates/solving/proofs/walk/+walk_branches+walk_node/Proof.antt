@@ -1,11 +1,11 @@
--- A node's walk is its clause and its branches' walk; branches' walk is the first one's and that of the others. The measure is
--- four times the depth that is left, and for branches their number and one besides: a node has no more than two.
+-- A node's walk is its clause and its branches' walk; branches' walk is the first one's, and then the second's. The measure is twice
+-- the depth that is left, and one more for branches.
 -- Assumes nothing.
+use Prim.Native.Nat.{ℕ, _+_, _*_, _<_, _≤_}
+use mathlib.Core.Path.{_≡_}
 use native.Mathlib.Omega.{arith}
-use Rattle.solving.proofs.Trees.{few-branches}
-use Rattle.solving.proofs.Walks.{ready-root, clause-able, branches-ready, first-ready, others-ready, walked-none, walked-more, walked-node}
-use Rattle.solving.specs.Walk.{nodeAt}
-use Prim.Native.Nat.{ℕ, _+_, _*_, _<_}
+use Rattle.solving.proofs.Walks.{ready-root, clause-able, branches-ready, first-ready, second-ready, walked-none, walked-one, walked-two, walked-node}
+use mathlib.Core.Logic.{_≢_}
 use borrow.Fn.Kinds.{In}
 use borrow.Fn.PlainCycle.{Measures, is, falls, and}
 use Rattle.solving.proofs.walk.walk_branches.Reads as walk-branches
@@ -19,10 +19,10 @@ use Rattle.solving.proofs.walk.+walk_branches+walk_node.{statement}
 use Rattle.solving.proofs.walk.+walk_branches+walk_node.Tie.{close}
 
 abbrev μ-walk-branches : Measures 2 walk-branches-kinds.ps ℕ
-μ-walk-branches κs a = 4 * a .0 + a .1 .1 .1 .1 .1 .0 + 1
+μ-walk-branches κs a = 2 * a .0 + 1
 
 abbrev μ-walk-node : Measures 2 walk-node-kinds.ps ℕ
-μ-walk-node κs a = 4 * a .0
+μ-walk-node κs a = 2 * a .0
 
 abbrev walk-branches-at : ℕ → In 2 walk-branches-kinds.ps
 walk-branches-at t =
@@ -45,10 +45,14 @@ walk-node-below t =
 
 -- what is known of the calls that a walk makes, whose measures are below t
 abbrev branch-calls : ℕ → walk-branches-lts.Claims
-branch-calls t = (walk-node-below t, walk-node.Post, walk-branches-below t, walk-branches.Post)
+branch-calls t = (walk-node-below t, walk-node.Post)
 
 abbrev node-calls : ℕ → walk-node-lts.Claims
 node-calls t = (clause-reads.Asked, clause-reads.Learnt, walk-branches-below t, walk-branches.Post)
+
+-- neither none nor one
+second : {b : ℕ} → b ≤ 2 → b ≢ 0 → b ≢ 1 → b ≡ 2
+second f z o = omega arith
 
 walk-branches-returns : (t : ℕ) → walk-branches-lts.Need-returns (branch-calls t) (walk-branches-at t) walk-branches.Post
 walk-branches-returns t c = walked-none _ _ _ _ _ _ _ (c .if1 .taken) (c .before .pre .1 .lent .news)
@@ -59,20 +63,22 @@ walk-branches-walk-node-requires t c κs =
     let e = s .pre .0 in
     (omega arith, first-ready _ _ _ _ _ _ _ (c .before .if1 .left) (s .pre .1))
 
-walk-branches-sub-walk-branches : (t : ℕ) → walk-branches-lts.Need-sub-walk-branches (branch-calls t) (walk-branches-at t) walk-branches.Post
-walk-branches-sub-walk-branches t c = let z = c .before .before .if1 .left in omega arith
-
-walk-branches-walk-branches-requires : (t : ℕ) → walk-branches-lts.Need-walk-branches-requires (branch-calls t) (walk-branches-at t) walk-branches.Post
-walk-branches-walk-branches-requires t c κs =
-    let s = c .before .before .before .before in
-    let e = s .pre .0 in
-    let z = c .before .before .before .if1 .left in
-    (omega arith, others-ready _ _ _ _ _ _ _ _ _ _ z (s .pre .1) (c .before .walk-node .ensures))
-
 walk-branches-returns-2 : (t : ℕ) → walk-branches-lts.Need-returns-2 (branch-calls t) (walk-branches-at t) walk-branches.Post
-walk-branches-returns-2 t c =
-    walked-more _ _ _ _ _ _ _ (c .before .before .walk-node .result) _ _ _ (c .before .before .before .before .if1 .left)
-    (c .before .before .walk-node .ensures) (c .walk-branches .ensures)
+walk-branches-returns-2 t c = walked-one _ _ _ _ _ _ _ _ _ (c .if2 .taken) (c .before .walk-node .ensures)
+
+walk-branches-walk-node-requires-2 : (t : ℕ) → walk-branches-lts.Need-walk-node-requires-2 (branch-calls t) (walk-branches-at t) walk-branches.Post
+walk-branches-walk-node-requires-2 t c κs =
+    let s = c .before .before .before .before .before in
+    let e = s .pre .0 in
+    let two = second (s .pre .1 .few) (c .before .before .before .before .if1 .left) (c .before .if2 .left) in
+    (omega arith, second-ready _ _ _ _ _ _ _ _ _ _ two (s .pre .1) (c .before .before .walk-node .ensures))
+
+walk-branches-returns-3 : (t : ℕ) → walk-branches-lts.Need-returns-3 (branch-calls t) (walk-branches-at t) walk-branches.Post
+walk-branches-returns-3 t c =
+    let s = c .before .before .before .before .before .before in
+    let two = second (s .pre .1 .few) (c .before .before .before .before .before .if1 .left) (c .before .before .if2 .left) in
+    let first = c .before .before .before .walk-node in
+    walked-two _ _ _ _ _ _ _ (first .result) _ _ _ two (first .ensures) (c .walk-node2 .ensures)
 
 walk-node-mul-slot : (t : ℕ) → walk-node-lts.Need-mul-slot (node-calls t) (walk-node-at t) walk-node.Post
 walk-node-mul-slot t c =
@@ -106,8 +112,7 @@ walk-node-walk-branches-requires t c κs =
     let step = c .before .clause in
     let w = ready-root _ _ _ _ _ _ (s .pre .1) in
     let z = w .1 .deeper in
-    let b = few-branches (nodeAt (s .args .t2) (s .args .at)) in
-    (omega (arith, step .ensures .branches), branches-ready _ _ _ _ _ _ _ (step .result) _ (s .pre .1) (step .ensures))
+    (omega arith, branches-ready _ _ _ _ _ _ _ (step .result) _ (s .pre .1) (step .ensures))
 
 walk-node-returns : (t : ℕ) → walk-node-lts.Need-returns (node-calls t) (walk-node-at t) walk-node.Post
 walk-node-returns t c = walked-node _ _ _ _ _ _ (c .before .before .clause .result) _ _ _ (c .before .before .clause .ensures) (c .walk-branches .ensures)
@@ -118,9 +123,9 @@ pub +walk-branches+walk-node-spec : {M : Type 1} → statement M
     walk-branches.Post
     (walk-branches-returns t)
     (walk-branches-walk-node-requires t)
-    (walk-branches-sub-walk-branches t)
-    (walk-branches-walk-branches-requires t)
-    (walk-branches-returns-2 t))
+    (walk-branches-returns-2 t)
+    (walk-branches-walk-node-requires-2 t)
+    (walk-branches-returns-3 t))
     λ t. walk-node-lts.spec
     (node-calls t)
     (walk-node-at t)

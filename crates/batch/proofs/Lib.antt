@@ -1,0 +1,2 @@
+-- Laws of a record's header.
+mod Numbers

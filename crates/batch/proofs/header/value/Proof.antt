@@ -1,0 +1,42 @@
+-- `value`: each return is the definition's answer under the tests that led to it. Assumes nothing.
+use Rattle.batch.specs.Header.{valueOf}
+use Rattle.batch.proofs.Numbers.{tests}
+use borrow.Author.Needs.{needs}
+use Rattle.batch.proofs.header.value.Statement.{statement}
+use Rattle.batch.proofs.header.value.Tie as tie
+use Rattle.batch.proofs.header.value.Reads as reads
+use Rattle.batch.proofs.header.value.Lts as lts
+
+returns : tie.Need-returns
+unfolding valueOf
+returns c = search tests
+
+cast-result : tie.Need-cast-result
+cast-result c = search needs
+
+returns-2 : tie.Need-returns-2
+unfolding valueOf
+returns-2 c = search tests
+
+returns-3 : tie.Need-returns-3
+unfolding valueOf
+returns-3 c = search tests
+
+sub-result : tie.Need-sub-result
+sub-result c = search needs
+
+cast-result-2 : tie.Need-cast-result-2
+cast-result-2 c = search needs
+
+returns-4 : tie.Need-returns-4
+unfolding valueOf
+returns-4 c = search tests
+
+returns-5 : tie.Need-returns-5
+unfolding valueOf
+returns-5 c = search tests
+
+pub value-spec : {M : Type 1} → statement M
+value-spec =
+    tie.close
+    (tie.spec returns cast-result returns-2 returns-3 sub-result cast-result-2 returns-4 returns-5)

@@ -1,0 +1,33 @@
+-- The header of a record: eight hexadecimal digits for the text's length, eight for the allowance of rounds, and a line feed.
+-- Assumes nothing.
+use Prim.Native.Nat.{ℕ, _+_, _-_, _*_}
+use mathlib.Core.Bool.{cond}
+use mathlib.Core.List.{List, [], _∷_}
+use lib.Dec.{eqb, leb, ltb}
+use lib.ListN.{length, getD, take, drop}
+use Rattle.batch.specs.declared.header.Header.{Header}
+use Rattle.batch.specs.declared.header.Header.the-variants.{Bad, Record}
+
+-- no number of eight digits: 2 to the 32
+abbrev pub noNumber : ℕ
+noNumber = 0x100000000
+
+-- 0-9 a-f by their codes, and 16 for any other character
+unfoldable pub valueOf : ℕ → ℕ
+valueOf c = cond (ltb c 48) 16 (cond (leb c 57) (c - 48) (cond (ltb c 97) 16 (cond (leb c 102) (c - 87) 16)))
+
+-- the number that digits make behind n, if they are digits
+unfoldable pub numberFrom : ℕ → List ℕ → ℕ
+numberFrom n [] = n
+numberFrom n (c ∷ cs) = let more = numberFrom (n * 16 + valueOf c) cs in cond (ltb (valueOf c) 16) more noNumber
+
+-- a text of at most 65,536 bytes, and an allowance of at most 65,535
+unfoldable pub headerFor : ℕ → ℕ → Header
+headerFor size allowance = cond (leb size 65536) (cond (leb allowance 65535) (Record size allowance) Bad) Bad
+
+-- a header has 17 characters, the last a line feed
+unfoldable pub headerOf : List ℕ → Header
+headerOf line =
+    cond (eqb (length line) 17)
+    (cond (eqb (getD line 16 0) 10) (headerFor (numberFrom 0 (take 8 line)) (numberFrom 0 (take 8 (drop 8 line)))) Bad)
+    Bad

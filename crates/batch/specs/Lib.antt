@@ -1,0 +1,2 @@
+-- Records of the batch program.
+pub mod Header

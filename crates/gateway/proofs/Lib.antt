@@ -1,0 +1,2 @@
+-- The law behind the exported function's proof.
+pub mod Calls

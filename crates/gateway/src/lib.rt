@@ -1,0 +1,17 @@
+// The sheet for gateways that are written in another language: one function, exported under a C name, over numbers and lent bytes.
+ghost use mathlib.Core.Path.{_≡_};
+ghost use Rattle.sheet.specs.Sheet.{sheetFor};
+ghost use Rattle.gateway.specs.Call.{Answers};
+use sheet::Written;
+
+// The length of the sheet of a text within an allowance of rounds. Where the buffer is as long or longer, the sheet stands at its start and
+// nothing past it is changed; where it is shorter, nothing of it is changed.
+#[no_mangle]
+pub extern "C" fn hjaltropa_sheet(text: &[u8], allowance: u16, buffer: &mut [u8]) -> usize
+    ensures { λ r. ⌜ Answers (sheetFor (now (text .entry)) allowance) (now (buffer .entry)) r (now (buffer .exit)) ⌝ }
+{
+    match sheet::write(text, allowance, buffer) {
+        Written::Whole(size) => size,
+        Written::TooShort(size) => size,
+    }
+}

@@ -1,0 +1,81 @@
+-- Document 01's plans with known sheets, P1 to P10, computed from the definitions alone: one row each (P9 has two), and one claim over the
+-- rows. Assumes nothing.
+use Prim.Native.Nat.{ℕ}
+use mathlib.Core.Path.{_≡_, refl}
+use mathlib.Core.List.{List, [], _∷_, _++_, map}
+use Rattle.reading.specs.Text.{linesOf, isDigit, valueOf, allDigits, isFaulty, bytesOf}
+use Rattle.reading.specs.Frames.{table, frameFrom, frameFor, frameIn}
+use Rattle.reading.specs.Rules.{outsideLimits, headRule, nameRule, pairRule, receiveRule, restrictionRule, bracketRule}
+use Rattle.reading.specs.Tree.{listing}
+use Rattle.reading.specs.Plan.{grow, readNames, nextNode, readTree, afterHead, readPlan, wrongLength, planIn}
+use Rattle.solving.specs.Compute.{wanted, run, solutionOf}
+use Rattle.judging.specs.Compute.{lowest, verdictFrom}
+use Rattle.sheet.specs.Sheet.{setLines, text, digit, hexLine, hexLines, sheetFor}
+
+-- a plan's text, an allowance of rounds, and the sheet
+pub record Row : Type 0 where
+  pub plan : List ℕ
+  pub allowance : ℕ
+  pub sheet : List ℕ
+
+abbrev row : List ℕ → ℕ → List ℕ → Row
+row plan allowance sheet = record { plan = plan; allowance = allowance; sheet = sheet }
+
+-- what the plan program allows
+abbrev allowed : ℕ
+allowed = 17409
+
+abbrev p2 : List ℕ
+p2 = text "010102010102\n020000\n020101\n15\n1901\n120001\n10\n1900\n13000200\n10\n"
+
+abbrev p2-sheet : List ℕ
+p2-sheet = text "2f0004\n200000000002\n21000000000002\n21070000000002\n22010000000002\n22070000000002\n300001000001\nflow breach\n"
+
+-- document 000's Example 1, a b c as channels 0 1 2, x y z w as binders 0 to 3, R Q P at 0 1 2
+abbrev p6 : List ℕ
+p6 =
+    text "010103040203\n020000\n020101\n020202\n18\n15\n1900\n120001\n120001\n120102\n10\n"
+    ++ text "15\n1901\n13000300\n120303\n10\n1902\n13000401\n13040502\n14\n170405\n120400\n10\n13040603\n10\n"
+
+-- the sets shown there, count 10, yes
+abbrev p6-sheet : List ℕ
+p6-sheet =
+    text "2f000a\n200000000002\n200100000002\n200200000007\n200300000007\n"
+    ++ (text "21010000000002\n21020000000002\n21020100000007\n21070000000002\n21070100000007\n"
+    ++ (text "22000000000002\n22000100000004\n22010100000002\n22020100000001\n22070000000002\n22070100000007\n"
+    ++ text "3001\nflow clear\n"))
+
+-- no sets, yes, after one round
+abbrev clear-at-once : List ℕ
+clear-at-once = text "2f0001\n3001\nflow clear\n"
+
+pub rows : List Row
+rows =
+    row (text "010101000000\n10\n") allowed clear-at-once
+    ∷ row p2 allowed p2-sheet
+    ∷ row
+    (text "010102010102\n020000\n020101\n15\n1900\n120001\n10\n1901\n13000200\n10\n")
+    allowed
+    (text "2f0004\n200000000002\n21010000000002\n21070000000002\n22000000000002\n22070000000002\n3001\nflow clear\n")
+    ∷ row
+    (text "010102010102\n020000\n020101\n15\n1901\n120001\n10\n1901\n13000200\n10\n")
+    allowed
+    (text "2f0004\n200000000002\n21010000000002\n21070000000002\n22010000000002\n22070000000002\n3001\nflow clear\n")
+    ∷ row
+    (text "010102010102\n020000\n020101\n15\n120001\n10\n1900\n13000200\n10\n")
+    allowed
+    (text "2f0004\n200000000002\n21000000000002\n21070000000002\n22070000000002\n3001\nflow clear\n")
+    ∷ row p6 allowed p6-sheet
+    ∷ row (text "010101010001\n020000\n13000100\n120000\n10\n") allowed clear-at-once
+    ∷ row (text "010102000002\n020000\n020101\n170001\n120001\n10\n") allowed clear-at-once
+    ∷ row p2 3 (text "3f0e0000\nrefused\n")
+    ∷ row p2 4 p2-sheet
+    ∷ row (text "") allowed (text "3f010000\nrefused\n")
+    ∷ []
+
+pub known : map (λ (r : Row). sheetFor (r .plan) (r .allowance)) rows ≡ map (λ (r : Row). r .sheet) rows
+unfolding linesOf isDigit valueOf allDigits isFaulty bytesOf table frameFrom frameFor frameIn
+    outsideLimits headRule nameRule pairRule receiveRule restrictionRule bracketRule listing
+    grow readNames nextNode readTree afterHead readPlan wrongLength planIn
+    wanted run solutionOf lowest verdictFrom setLines digit hexLine hexLines sheetFor rows
+known = refl

@@ -1,0 +1,108 @@
+-- Document 01, 'The sheet': its lines in order, a line as bytes, and the whole as characters.
+-- Assumes nothing.
+use Prim.Native.Nat.{ℕ, _+_, _/_, _%_}
+use Prim.Native.Char.{code}
+use Prim.Native.String as S
+use Prim.Native.String.{String}
+use mathlib.Core.Bool.{cond}
+use mathlib.Core.List.{List, [], _∷_, _++_}
+use lib.Dec.{eqb, ltb}
+use Rattle.reading.specs.declared.Refusal.{Refusal}
+use Rattle.reading.specs.Plan.{planIn}
+use Rattle.reading.specs.Text.{lineFeed}
+use Rattle.solving.specs.declared.Solution.{Solution}
+use Rattle.solving.specs.declared.Solved.{Solved}
+use Rattle.judging.specs.declared.Answer.{Answer}
+use Rattle.judging.specs.declared.Verdict.{Verdict}
+use Rattle.judging.specs.declared.Verdict.the-variants.{Unjudged, Yes, No}
+use Rattle.judging.specs.Judge.{bytesOf}
+use Rattle.judging.specs.Compute.{answerOf}
+
+-- ---- numbers on a line
+
+-- two bytes, high byte first
+abbrev pub twoBytes : ℕ → List ℕ
+twoBytes n = n / 0x100 % 0x100 ∷ n % 0x100 ∷ []
+
+-- a set is four bytes, high byte first; channel c counts 2 to the c
+abbrev pub setBytes : ℕ → List ℕ
+setBytes s = s / 0x1000000 % 0x100 ∷ s / 0x10000 % 0x100 ∷ s / 0x100 % 0x100 ∷ s % 0x100 ∷ []
+
+-- ---- the lines in order
+
+-- 2f, count in two bytes
+abbrev pub countLine : ℕ → List ℕ
+countLine count = 0x2f ∷ twoBytes count
+
+-- 20, binder
+abbrev pub binderName : ℕ → List ℕ
+binderName b = 0x20 ∷ b ∷ []
+
+-- 21, level, channel: in(l, c) stands at l * 32 + c, so that 07 comes last
+abbrev pub inName : ℕ → List ℕ
+inName place = 0x21 ∷ place / 32 ∷ place % 32 ∷ []
+
+-- 22, the same for out sets
+abbrev pub outName : ℕ → List ℕ
+outName place = 0x22 ∷ place / 32 ∷ place % 32 ∷ []
+
+-- the name and the set, where it is not empty
+abbrev pub setLine : List ℕ → ℕ → List (List ℕ)
+setLine name set = cond (eqb set 0) [] ((name ++ setBytes set) ∷ [])
+
+-- each non-empty set, by its place, from one on
+unfoldable pub setLines : (ℕ → List ℕ) → ℕ → List ℕ → List (List ℕ)
+setLines name place [] = []
+setLines name place (set ∷ rest) = setLine (name place) set ++ setLines name (place + 1) rest
+
+-- the binder sets, the in sets, the out sets
+abbrev pub solutionLines : Solution → List (List ℕ)
+solutionLines s = setLines binderName 0 (s .binders) ++ (setLines inName 0 (s .ins) ++ setLines outName 0 (s .outs))
+
+-- the lines in front of the verdict
+abbrev pub solvedLines : Solved → List (List ℕ)
+solvedLines s = countLine (s .count) ∷ solutionLines (s .solution)
+
+-- a refusal's sheet has only 3f, number, line in two bytes
+abbrev pub refusalLine : Refusal → List ℕ
+refusalLine f = 0x3f ∷ f .number ∷ twoBytes (f .line)
+
+-- all lines but the last; 3001 for yes, 30 00 h g c o for no
+abbrev pub byteLines : Solved → Verdict → List (List ℕ)
+byteLines s Unjudged = refusalLine (s .refusal) ∷ []
+byteLines s Yes = solvedLines s ++ (bytesOf Yes ∷ [])
+byteLines s (No b) = solvedLines s ++ (bytesOf (No b) ∷ [])
+
+-- ---- characters
+
+abbrev pub text : String → List ℕ
+text S.[] = []
+text (S._∷_ c s) = code c ∷ text s
+
+-- 0-9 a-f
+unfoldable pub digit : ℕ → ℕ
+digit d = cond (ltb d 10) (48 + d) (87 + d)
+
+-- a line: two digits a byte, and a line feed
+unfoldable pub hexLine : List ℕ → List ℕ
+hexLine [] = lineFeed ∷ []
+hexLine (b ∷ bs) = digit (b / 16) ∷ digit (b % 16) ∷ hexLine bs
+
+unfoldable pub hexLines : List (List ℕ) → List ℕ
+hexLines [] = []
+hexLines (l ∷ ls) = hexLine l ++ hexLines ls
+
+-- the last line is one of three fixed phrases
+abbrev pub phrase : Verdict → List ℕ
+phrase Unjudged = text "refused\n"
+phrase Yes = text "flow clear\n"
+phrase (No b) = text "flow breach\n"
+
+-- ---- the sheet
+
+abbrev pub sheetOf : Answer → List ℕ
+sheetOf a = hexLines (byteLines (a .solved) (a .verdict)) ++ phrase (a .verdict)
+
+-- of a text and an allowance of rounds
+unfoldable pub sheetFor : List ℕ → ℕ → List ℕ
+sheetFor plan allowance = sheetOf (answerOf (planIn plan) allowance)

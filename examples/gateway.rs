@@ -1,0 +1,55 @@
+//! A gateway in Rust: prints the sheet of the plan on standard input, after
+//! trying buffers of every length from 0 to the sheet's and one more, with
+//! bytes around them that have to stay.
+
+use std::io::{self, Read, Write};
+
+/// Rounds that suffice for every plan.
+const ROUNDS: u16 = 17_409;
+/// Bytes that are laid around a buffer, and what they are filled with.
+const AROUND: usize = 16;
+const FILL: u8 = 0xa5;
+
+extern "C" {
+    fn hjaltropa_sheet(
+        text: *const u8,
+        text_length: usize,
+        allowance: u16,
+        buffer: *mut u8,
+        buffer_length: usize,
+    ) -> usize;
+}
+
+/// The length of a text's sheet; where the buffer is as long or longer, the
+/// sheet stands at its start, and otherwise the buffer is unchanged.
+fn sheet(text: &[u8], allowance: u16, buffer: &mut [u8]) -> usize {
+    // Two slices of Rust's are what the proved function asks for: it has no
+    // further demand on its caller.
+    unsafe {
+        hjaltropa_sheet(
+            text.as_ptr(),
+            text.len(),
+            allowance,
+            buffer.as_mut_ptr(),
+            buffer.len(),
+        )
+    }
+}
+
+fn main() -> io::Result<()> {
+    let mut text = Vec::new();
+    io::stdin().read_to_end(&mut text)?;
+    let size = sheet(&text, ROUNDS, &mut []);
+    let mut whole = vec![0; size];
+    assert_eq!(sheet(&text, ROUNDS, &mut whole), size);
+    for room in 0..=size + 1 {
+        let mut tried = vec![FILL; AROUND + room + AROUND];
+        let buffer = &mut tried[AROUND..AROUND + room];
+        assert_eq!(sheet(&text, ROUNDS, buffer), size);
+        let written = if room < size { 0 } else { size };
+        let mut wanted = vec![FILL; AROUND + room + AROUND];
+        wanted[AROUND..AROUND + written].copy_from_slice(&whole[..written]);
+        assert_eq!(tried, wanted, "a buffer of {room} bytes");
+    }
+    io::stdout().write_all(&whole)
+}
