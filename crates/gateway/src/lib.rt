@@ -1,5 +1,4 @@
 // The sheet for gateways that are written in another language: one function, exported under a C name, over numbers and lent bytes.
-ghost use mathlib.Core.Path.{_≡_};
 ghost use Rattle.sheet.specs.Sheet.{sheetFor};
 ghost use Rattle.gateway.specs.Call.{Answers};
 use sheet::Written;

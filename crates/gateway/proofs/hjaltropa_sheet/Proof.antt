@@ -1,5 +1,5 @@
 -- `hjaltropa_sheet`: either outcome of `write` holds the length that is returned. Assumes nothing.
-use mathlib.Core.Path.{_≡_, sym, ap}
+use mathlib.Core.Path.{sym, ap}
 use borrow.Author.Needs.{needs}
 use Rattle.sheet.specs.Write.{valuesOf}
 use Rattle.gateway.proofs.Calls.{second, answers}
