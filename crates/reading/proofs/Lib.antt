@@ -1,4 +1,4 @@
--- The laws behind the functions' proofs, from lines to the whole text; then what reading promises, and the edges of document 01.
+-- The laws behind the functions' proofs, from lines to the whole text; then what reading promises.
 pub mod Tests
 pub mod Lines
 pub mod Scopes
@@ -11,4 +11,3 @@ pub mod Promise
 pub mod Padding
 pub mod Whole
 pub mod Listing
-mod Edges

@@ -1,11 +1,11 @@
 -- Lines as characters: how long one is, and the turns of the loops that put a line and a text, by what is left of it.
 -- Assumes nothing.
-use Prim.Native.Nat.{ℕ, suc, _+_, _*_, _/_, _%_, _≤_, _<_}
-use mathlib.Core.Path.{_≡_, refl, ap, subst, subst⁻¹, _∙_}
+use Prim.Native.Nat.{ℕ, _+_, _*_, _/_, _%_, _≤_, _<_}
+use mathlib.Core.Path.{_≡_, refl, ap, subst, _∙_}
 use mathlib.Core.List.{List, [], _∷_, _++_, append-assoc}
 use native.Mathlib.Numerals.{add-one}
 use native.Mathlib.Omega.{arith}
-use lib.ListN.{length, set, getD, drop, length-append, length-drop, drop-of-length-le}
+use lib.ListN.{length, set, getD, drop, length-drop, drop-of-length-le}
 use lib.Seq.{drop-cons}
 use Rattle.reading.specs.Text.{lineFeed}
 use Rattle.sheet.specs.Sheet.{digit, hexLine, hexLines}

@@ -6,5 +6,3 @@ pub mod Filling
 pub mod Parts
 -- The promise, over texts.
 pub mod Sheets
--- The plans with known sheets.
-pub mod KnownPlans

@@ -12,7 +12,7 @@ use Rattle.judging.specs.declared.Verdict.the-variants.{Unjudged}
 use Rattle.judging.specs.Judge.{bytesOf}
 use Rattle.sheet.specs.declared.rows.Row.the-variants.{Binders, Ins, Outs}
 use Rattle.sheet.specs.Sheet.{countLine, binderName, inName, outName, setLines, solutionLines, solvedLines, refusalLine, byteLines, hexLine, hexLines, phrase, sheetOf}
-use Rattle.sheet.specs.Working.{rowText, filledIn}
+use Rattle.sheet.specs.Working.{rowText, filledIn, refusalText, judgedText}
 use Rattle.sheet.proofs.Characters.{line-length, lines-append}
 use Rattle.sheet.proofs.Filling.{lines-size}
 
@@ -65,7 +65,7 @@ last-size l p = let both = length-append (hexLine l) p in let line = line-length
 
 -- a refusal's
 module _ (a : Answer) (e : a .verdict ≡ Unjudged) where
-  pub refused-parts : sheetOf a ≡ hexLine (refusalLine (a .solved .refusal)) ++ phrase Unjudged
+  pub refused-parts : sheetOf a ≡ refusalText (a .solved .refusal)
   unfolding hexLines
   refused-parts = sheet-with a Unjudged e ∙ lines-then [] (refusalLine (a .solved .refusal)) (phrase Unjudged)
 
@@ -74,7 +74,7 @@ module _ (a : Answer) (e : a .verdict ≡ Unjudged) where
 
 -- one with a yes or a no
 module _ (a : Answer) (v : Verdict) (e : a .verdict ≡ v) (judged : byteLines (a .solved) v ≡ solvedLines (a .solved) ++ (bytesOf v ∷ [])) where
-  pub judged-parts : sheetOf a ≡ hexLines (solvedLines (a .solved)) ++ (hexLine (bytesOf v) ++ phrase v)
+  pub judged-parts : sheetOf a ≡ judgedText (a .solved) v
   judged-parts = sheet-with a v e ∙ (ap (λ ls. hexLines ls ++ phrase v) judged ∙ lines-then (solvedLines (a .solved)) (bytesOf v) (phrase v))
 
   pub judged-size : length (sheetOf a) ≡ 7 + length (hexLines (solutionLines (a .solved .solution))) + (2 * length (bytesOf v) + 1 + length (phrase v))

@@ -1,11 +1,11 @@
 -- Putting a sequence into a buffer part by part. `Left` says what is still to be put so that in the end the whole stands there; a store or a
 -- part that was put takes it one step on, and where nothing is left the whole was put. Assumes nothing.
-use Prim.Native.Nat.{ℕ, suc, _+_, _≤_, _<_}
-use mathlib.Core.Path.{_≡_, refl, sym, ap, subst, subst⁻¹, _∙_}
+use Prim.Native.Nat.{ℕ, suc, _+_}
+use mathlib.Core.Path.{_≡_, refl, sym, ap, subst⁻¹, _∙_}
 use mathlib.Core.List.{List, [], _∷_, _++_}
 use native.Mathlib.Omega.{arith}
 use lib.ListN.{length, set, length-append, length-set}
-use lib.Seq.{sets, length-sets}
+use lib.Seq.{sets}
 use Rattle.sheet.specs.Working.{Room, Put}
 
 pub record Left (before : List ℕ) (at : ℕ) (xs : List ℕ) (buffer : List ℕ) (next : ℕ) (rest : List ℕ) : Type 0 where

@@ -1,7 +1,7 @@
 -- What the contract of `write` comes to, over texts: it admits one outcome, which is the sheet of whatever answer the contract of `judge`
 -- admits; 8,128 bytes always suffice; and a buffer of the sheet's length is enough, where one byte less is not. Assumes nothing.
 use Prim.Native.Nat.{ℕ, _+_, _<_, _≤_}
-use mathlib.Core.Path.{_≡_, refl, sym, ap, subst, subst⁻¹, _∙_}
+use mathlib.Core.Path.{_≡_, refl, sym, ap, subst⁻¹, _∙_}
 use mathlib.Core.List.{List, [], _∷_, _++_, append-nil}
 use mathlib.Core.Logic.{⊎-elim}
 use native.Mathlib.Decide.{decLe}
@@ -13,7 +13,6 @@ use Rattle.reading.proofs.Promise.{kept}
 use Rattle.solving.specs.declared.Solved.{Solved}
 use Rattle.solving.specs.Solutions.{Sized}
 use Rattle.solving.specs.Solve.{Solves, refusedBy}
-use Rattle.solving.specs.Compute.{solvedOf}
 use Rattle.solving.proofs.Promises.{computed}
 use Rattle.judging.specs.declared.Answer.{Answer}
 use Rattle.judging.specs.declared.Verdict.{Verdict}

@@ -46,11 +46,11 @@ inName place = 0x21 ∷ place / 32 ∷ place % 32 ∷ []
 abbrev pub outName : ℕ → List ℕ
 outName place = 0x22 ∷ place / 32 ∷ place % 32 ∷ []
 
--- the name and the set, where it is not empty
+-- the name and the set; an empty set has no line
 abbrev pub setLine : List ℕ → ℕ → List (List ℕ)
 setLine name set = cond (eqb set 0) [] ((name ++ setBytes set) ∷ [])
 
--- each non-empty set, by its place, from one on
+-- each non-empty set, by its place, from the given place on
 unfoldable pub setLines : (ℕ → List ℕ) → ℕ → List ℕ → List (List ℕ)
 setLines name place [] = []
 setLines name place (set ∷ rest) = setLine (name place) set ++ setLines name (place + 1) rest
@@ -75,6 +75,7 @@ byteLines s (No b) = solvedLines s ++ (bytesOf (No b) ∷ [])
 
 -- ---- characters
 
+-- characters by their codes
 abbrev pub text : String → List ℕ
 text S.[] = []
 text (S._∷_ c s) = code c ∷ text s
@@ -88,6 +89,7 @@ unfoldable pub hexLine : List ℕ → List ℕ
 hexLine [] = lineFeed ∷ []
 hexLine (b ∷ bs) = digit (b / 16) ∷ digit (b % 16) ∷ hexLine bs
 
+-- lines, one after the other
 unfoldable pub hexLines : List (List ℕ) → List ℕ
 hexLines [] = []
 hexLines (l ∷ ls) = hexLine l ++ hexLines ls
@@ -100,6 +102,7 @@ phrase (No b) = text "flow breach\n"
 
 -- ---- the sheet
 
+-- of an answer
 abbrev pub sheetOf : Answer → List ℕ
 sheetOf a = hexLines (byteLines (a .solved) (a .verdict)) ++ phrase (a .verdict)
 

@@ -1,15 +1,21 @@
--- For the contracts of the code's inner functions alone: characters put into a buffer, the kinds of rows, and how many sets are not empty.
+-- For the contracts of the code's inner functions alone: characters put into a buffer, the kinds of rows, how many sets are
+-- not empty, and the parts of a sheet.
 -- Assumes nothing.
 use Prim.Native.Nat.{ℕ, _+_, _≤_}
 use mathlib.Core.Bool.{cond}
 use mathlib.Core.Path.{_≡_}
-use mathlib.Core.List.{List, [], _∷_}
+use mathlib.Core.List.{List, [], _∷_, _++_}
 use lib.Dec.{eqb}
 use lib.ListN.{length}
 use lib.Seq.{sets}
+use Rattle.reading.specs.declared.Refusal.{Refusal}
+use Rattle.solving.specs.declared.Solved.{Solved}
+use Rattle.judging.specs.declared.Verdict.{Verdict}
+use Rattle.judging.specs.declared.Verdict.the-variants.{Unjudged}
+use Rattle.judging.specs.Judge.{bytesOf}
 use Rattle.sheet.specs.declared.rows.Row.{Row}
 use Rattle.sheet.specs.declared.rows.Row.the-variants.{Binders, Ins, Outs}
-use Rattle.sheet.specs.Sheet.{binderName, inName, outName, setLine, setLines, hexLines}
+use Rattle.sheet.specs.Sheet.{binderName, inName, outName, setLine, setLines, solvedLines, refusalLine, hexLine, hexLines, phrase}
 
 -- there is room for xs from a position on
 pub record Room (buffer : List ℕ) (at : ℕ) (xs : List ℕ) : Type 0 where
@@ -39,3 +45,10 @@ rowText row sets = hexLines (setLines (nameIn row) 0 sets)
 unfoldable pub filledIn : List ℕ → ℕ
 filledIn [] = 0
 filledIn (set ∷ rest) = cond (eqb set 0) 0 1 + filledIn rest
+
+-- the sheet of a refusal, and of a solution with a yes or a no
+abbrev pub refusalText : Refusal → List ℕ
+refusalText f = hexLine (refusalLine f) ++ phrase Unjudged
+
+abbrev pub judgedText : Solved → Verdict → List ℕ
+judgedText s v = hexLines (solvedLines s) ++ (hexLine (bytesOf v) ++ phrase v)

@@ -1,42 +1,31 @@
 // A whole answer as characters: its length, and the writing of it.
 ghost use mathlib.Core.Path.{_≡_};
+ghost use mathlib.Core.List.{_++_};
 ghost use lib.ListN.{length};
-ghost use Rattle.sheet.specs.Sheet.{solvedLines, hexLines, sheetOf};
-ghost use Rattle.sheet.specs.Working.{Room, Put};
+ghost use Rattle.sheet.specs.Sheet.{solvedLines, hexLine, hexLines, sheetOf};
+ghost use Rattle.sheet.specs.Working.{Room, Put, refusalText, judgedText};
 use crate::lines::put_last;
 use crate::lines::put_line;
 use crate::rows::put_solution;
 use crate::rows::solution_length;
 use judging::Answer;
+use judging::Breach;
 use judging::Verdict;
+use reading::Refusal;
 use solving::Solved;
 
-// Lengths with their line feeds: lines of bytes, two characters a byte, and phrases.
-const COUNT_LINE: usize = 7;
-
-const YES_LINE: usize = 5;
-
-const NO_LINE: usize = 13;
-
-const REFUSAL_LINE: usize = 9;
-
-const CLEAR: usize = 11;
-
-const BREACH: usize = 12;
-
-const REFUSED: usize = 8;
-
-// The sheet's length.
+// The sheet's length. Lines of 2, 3, 4 and 6 bytes have 5, 7, 9 and 13 characters, and the phrases 8, 11 and 12.
 pub(crate) fn length_of(answer: Answer) -> usize
     ensures { λ r. ⌜ r ≡ length (sheetOf answer) ⌝ }
 {
     let solved = answer.solved;
     let solution = solved.solution;
+    let front = 7 + solution_length(solution);
     let verdict = answer.verdict;
     match verdict {
-        Verdict::Unjudged => REFUSAL_LINE + REFUSED,
-        Verdict::Yes => COUNT_LINE + solution_length(solution) + YES_LINE + CLEAR,
-        Verdict::No(_) => COUNT_LINE + solution_length(solution) + NO_LINE + BREACH,
+        Verdict::Unjudged => 9 + 8,
+        Verdict::Yes => front + 5 + 11,
+        Verdict::No(_) => front + 13 + 12,
     }
 }
 
@@ -53,6 +42,51 @@ fn put_solved(buffer: &mut [u8], solved: Solved) -> usize
     put_solution(buffer, counted, solution)
 }
 
+// Puts the sheet of a refusal at the buffer's start.
+fn put_refusal(buffer: &mut [u8], refusal: Refusal) -> usize
+    requires { ⌜ Room (now buffer) 0 (refusalText refusal) ⌝ }
+    ensures { λ r. ⌜ Put (now (buffer .entry)) 0 (refusalText refusal) (now (buffer .exit)) r ⌝ }
+{
+    let number = refusal.number;
+    let line = refusal.line;
+    let high = (line / 0x100 % 0x100) as u8;
+    let low = (line % 0x100) as u8;
+    put_last(buffer, 0, &[0x3f, number, high, low], b"refused\n")
+}
+
+// Puts the sheet of a solution at the buffer's start, with the bytes of its verdict and their phrase.
+fn put_judged(buffer: &mut [u8], solved: Solved, bytes: &[u8], phrase: &[u8]) -> usize
+    requires { ⌜ Room (now buffer) 0 (hexLines (solvedLines solved) ++ (hexLine (now bytes) ++ now phrase)) ⌝ }
+    ensures { λ r. ⌜ Put (now (buffer .entry)) 0 (hexLines (solvedLines solved) ++ (hexLine (now (bytes .entry)) ++ now (phrase .entry))) (now (buffer .exit)) r ⌝ }
+{
+    let next = put_solved(buffer, solved);
+    put_last(buffer, next, bytes, phrase)
+}
+
+// Puts the sheet of a yes at the buffer's start.
+fn put_yes(buffer: &mut [u8], solved: Solved) -> usize
+    requires { ⌜ Room (now buffer) 0 (judgedText solved Verdict.Yes) ⌝ }
+    ensures { λ r. ⌜ Put (now (buffer .entry)) 0 (judgedText solved Verdict.Yes) (now (buffer .exit)) r ⌝ }
+{
+    put_judged(buffer, solved, &[0x30, 0x01], b"flow clear\n")
+}
+
+// Puts the sheet of a no at the buffer's start.
+fn put_no(buffer: &mut [u8], solved: Solved, breach: Breach) -> usize
+    requires { ⌜ Room (now buffer) 0 (judgedText solved (Verdict.No breach)) ⌝ }
+    ensures { λ r. ⌜ Put (now (buffer .entry)) 0 (judgedText solved (Verdict.No breach)) (now (buffer .exit)) r ⌝ }
+{
+    let bytes = [
+        0x30,
+        0x00,
+        breach.higher,
+        breach.lower,
+        breach.channel,
+        breach.handle,
+    ];
+    put_judged(buffer, solved, &bytes, b"flow breach\n")
+}
+
 // Puts the sheet at the buffer's start.
 pub(crate) fn put_answer(buffer: &mut [u8], answer: Answer) -> usize
     requires { ⌜ Room (now buffer) 0 (sheetOf answer) ⌝ }
@@ -61,29 +95,8 @@ pub(crate) fn put_answer(buffer: &mut [u8], answer: Answer) -> usize
     let solved = answer.solved;
     let verdict = answer.verdict;
     match verdict {
-        Verdict::Unjudged => {
-            let refusal = solved.refusal;
-            let number = refusal.number;
-            let line = refusal.line;
-            let high = (line / 0x100 % 0x100) as u8;
-            let low = (line % 0x100) as u8;
-            put_last(buffer, 0, &[0x3f, number, high, low], b"refused\n")
-        }
-        Verdict::Yes => {
-            let next = put_solved(buffer, solved);
-            put_last(buffer, next, &[0x30, 0x01], b"flow clear\n")
-        }
-        Verdict::No(breach) => {
-            let next = put_solved(buffer, solved);
-            let bytes = [
-                0x30,
-                0x00,
-                breach.higher,
-                breach.lower,
-                breach.channel,
-                breach.handle,
-            ];
-            put_last(buffer, next, &bytes, b"flow breach\n")
-        }
+        Verdict::Unjudged => put_refusal(buffer, solved.refusal),
+        Verdict::Yes => put_yes(buffer, solved),
+        Verdict::No(breach) => put_no(buffer, solved, breach),
     }
 }

@@ -89,7 +89,7 @@ pub(crate) fn put_solution(buffer: &mut [u8], at: usize, solution: Solution) -> 
     put_row(buffer, received, Row::Outs, &outs)
 }
 
-// The length of the lines of all sets: two characters a byte, and a line feed.
+// The length of the lines of all sets: 13 characters for the 6 bytes of a binder's, 15 for the 7 of a level and channel's.
 pub(crate) fn solution_length(solution: Solution) -> usize
     ensures { λ r. ⌜ (r ≡ length (hexLines (solutionLines solution))) × (r ≤ 8096) ⌝ }
 {

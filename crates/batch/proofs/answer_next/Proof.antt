@@ -5,12 +5,6 @@ use lib.Seq.{length-take-le}
 use borrow.Author.Needs.{needs}
 use Rattle.batch.proofs.answer_next.Statement.{statement}
 use Rattle.batch.proofs.answer_next.Tie as tie
-use Rattle.batch.proofs.answer_next.Reads as reads
-use Rattle.batch.proofs.answer_next.Lts as lts
-use Rattle.batch.proofs.answer_text.Reads as answer-text-reads
-use Rattle.batch.proofs.bad_record.Reads as bad-record-reads
-use Rattle.batch.proofs.header.header_of.Reads as header-of-reads
-use Rattle.io.proofs.read_full.Reads as read-full-reads
 
 slice-aggregate-read-full : tie.Need-slice-aggregate-read-full
 slice-aggregate-read-full c = search needs

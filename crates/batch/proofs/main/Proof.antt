@@ -5,10 +5,6 @@ use native.Mathlib.Omega.{arith}
 use lib.ListN.{length}
 use Rattle.batch.proofs.main.Statement.{statement}
 use Rattle.batch.proofs.main.Tie as tie
-use Rattle.batch.proofs.main.Reads as reads
-use Rattle.batch.proofs.main.Lts as lts
-use Rattle.batch.proofs.answer_next.Reads as answer-next-reads
-use Rattle.io.proofs.large_buffer.Reads as large-buffer-reads
 
 abbrev Inv-loop : tie.InvT-loop
 Inv-loop room₀ number₀ room number = (65536 ≡ length room) × (number < 2 ^ 64)

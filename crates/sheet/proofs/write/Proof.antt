@@ -6,11 +6,6 @@ use Rattle.sheet.proofs.Putting.{put-same}
 use Rattle.sheet.proofs.Sheets.{short-writes, whole-writes, sheet-is}
 use Rattle.sheet.proofs.write.Statement.{statement}
 use Rattle.sheet.proofs.write.Tie as tie
-use Rattle.sheet.proofs.write.Reads as reads
-use Rattle.sheet.proofs.write.Lts as lts
-use Rattle.judging.proofs.judge.Reads as judge-reads
-use Rattle.sheet.proofs.answers.length_of.Reads as length-of-reads
-use Rattle.sheet.proofs.answers.put_answer.Reads as put-answer-reads
 
 judge-requires : tie.Need-judge-requires
 judge-requires c κs = search needs

@@ -4,8 +4,6 @@ use Rattle.batch.proofs.Numbers.{tests}
 use borrow.Author.Needs.{needs}
 use Rattle.batch.proofs.header.header_for.Statement.{statement}
 use Rattle.batch.proofs.header.header_for.Tie as tie
-use Rattle.batch.proofs.header.header_for.Reads as reads
-use Rattle.batch.proofs.header.header_for.Lts as lts
 
 returns : tie.Need-returns
 unfolding headerFor

@@ -2,16 +2,12 @@
 use mathlib.Core.Path.{sym, ap₂, _∙_}
 use native.Mathlib.Omega.{arith}
 use borrow.Author.Tests.{eq-eqb, ne-eqb}
-use lib.ListN.{length, length-take}
+use lib.ListN.{length-take}
 use lib.Seq.{length-take-le}
 use Rattle.batch.specs.Header.{headerFor, headerOf}
 use borrow.Author.Needs.{needs}
 use Rattle.batch.proofs.header.header_of.Statement.{statement}
 use Rattle.batch.proofs.header.header_of.Tie as tie
-use Rattle.batch.proofs.header.header_of.Reads as reads
-use Rattle.batch.proofs.header.header_of.Lts as lts
-use Rattle.batch.proofs.header.header_for.Reads as header-for-reads
-use Rattle.batch.proofs.header.number.Reads as number-reads
 
 returns : tie.Need-returns
 unfolding headerOf

@@ -8,9 +8,6 @@ use Rattle.batch.specs.Header.{numberFrom}
 use Rattle.batch.proofs.Numbers.{number-on, number-none, number-end, below-more, below-most}
 use Rattle.batch.proofs.header.number.Statement.{statement}
 use Rattle.batch.proofs.header.number.Tie as tie
-use Rattle.batch.proofs.header.number.Reads as reads
-use Rattle.batch.proofs.header.number.Lts as lts
-use Rattle.batch.proofs.header.value.Reads as value-reads
 
 abbrev Inv-loop : tie.InvT-loop
 Inv-loop digits n₀ i₀ n i = (numberFrom 0 digits ≡ numberFrom n (drop i digits)) × (n < 2 ^ (4 * i))

@@ -4,8 +4,6 @@ use Rattle.batch.proofs.Numbers.{tests}
 use borrow.Author.Needs.{needs}
 use Rattle.batch.proofs.header.value.Statement.{statement}
 use Rattle.batch.proofs.header.value.Tie as tie
-use Rattle.batch.proofs.header.value.Reads as reads
-use Rattle.batch.proofs.header.value.Lts as lts
 
 returns : tie.Need-returns
 unfolding valueOf

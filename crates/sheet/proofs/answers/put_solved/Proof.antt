@@ -8,10 +8,6 @@ use Rattle.sheet.proofs.Parts.{solved-parts}
 use borrow.Author.Needs.{needs}
 use Rattle.sheet.proofs.answers.put_solved.Statement.{statement}
 use Rattle.sheet.proofs.answers.put_solved.Tie as tie
-use Rattle.sheet.proofs.answers.put_solved.Reads as reads
-use Rattle.sheet.proofs.answers.put_solved.Lts as lts
-use Rattle.sheet.proofs.lines.put_line.Reads as put-line-reads
-use Rattle.sheet.proofs.rows.put_solution.Reads as put-solution-reads
 
 -- there is room for the count and for the sets
 both-rooms : (c : tie.Start) → Room (c .args .buffer .now) 0 (hexLine (countLine (c .args .solved .count)) ++ hexLines (solutionLines (c .args .solved .solution)))

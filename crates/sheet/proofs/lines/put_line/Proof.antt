@@ -7,9 +7,6 @@ use Rattle.sheet.proofs.Putting.{Left, left-all}
 use Rattle.sheet.proofs.Characters.{line-step, line-room, line-end, line-end-room}
 use Rattle.sheet.proofs.lines.put_line.Statement.{statement}
 use Rattle.sheet.proofs.lines.put_line.Tie as tie
-use Rattle.sheet.proofs.lines.put_line.Reads as reads
-use Rattle.sheet.proofs.lines.put_line.Lts as lts
-use Rattle.sheet.proofs.lines.digit.Reads as digit-reads
 
 abbrev Inv-loop : tie.InvT-loop
 Inv-loop buffer₀ at bytes next₀ i₀ buffer next i = Left buffer₀ at (hexLine bytes) buffer next (hexLine (drop i bytes))

@@ -6,8 +6,6 @@ use Rattle.sheet.proofs.Putting.{Left, left-all}
 use Rattle.sheet.proofs.Characters.{text-step, text-room, text-end}
 use Rattle.sheet.proofs.lines.put_text.Statement.{statement}
 use Rattle.sheet.proofs.lines.put_text.Tie as tie
-use Rattle.sheet.proofs.lines.put_text.Reads as reads
-use Rattle.sheet.proofs.lines.put_text.Lts as lts
 
 abbrev Inv-loop : tie.InvT-loop
 Inv-loop buffer₀ at characters next₀ i₀ buffer next i = Left buffer₀ at characters buffer next (drop i characters)

@@ -9,8 +9,6 @@ use Rattle.sheet.specs.Working.{filledIn}
 use Rattle.sheet.proofs.Filling.{filled-empty, filled-more, filled-end}
 use Rattle.sheet.proofs.rows.filled.Statement.{statement}
 use Rattle.sheet.proofs.rows.filled.Tie as tie
-use Rattle.sheet.proofs.rows.filled.Reads as reads
-use Rattle.sheet.proofs.rows.filled.Lts as lts
 
 abbrev Inv-loop : tie.InvT-loop
 Inv-loop row count₀ i₀ count i = (count + filledIn (drop i row) ≡ filledIn row) × (count ≤ i)

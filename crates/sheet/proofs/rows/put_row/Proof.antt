@@ -9,9 +9,6 @@ use Rattle.sheet.proofs.Putting.{Left, left-all}
 use Rattle.sheet.proofs.Filling.{row-room, row-step, row-end}
 use Rattle.sheet.proofs.rows.put_row.Statement.{statement}
 use Rattle.sheet.proofs.rows.put_row.Tie as tie
-use Rattle.sheet.proofs.rows.put_row.Reads as reads
-use Rattle.sheet.proofs.rows.put_row.Lts as lts
-use Rattle.sheet.proofs.rows.put_set.Reads as put-set-reads
 
 abbrev Inv-loop : tie.InvT-loop
 Inv-loop buffer₀ at row sets next₀ place₀ buffer next place = Left buffer₀ at (rowText row sets) buffer next (hexLines (setLines (nameIn row) place (drop place sets)))

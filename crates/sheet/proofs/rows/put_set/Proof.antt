@@ -11,9 +11,6 @@ use Rattle.sheet.proofs.Putting.{put-none, put-same}
 use Rattle.sheet.proofs.Filling.{set-line, set-none}
 use Rattle.sheet.proofs.rows.put_set.Statement.{statement}
 use Rattle.sheet.proofs.rows.put_set.Tie as tie
-use Rattle.sheet.proofs.rows.put_set.Reads as reads
-use Rattle.sheet.proofs.rows.put_set.Lts as lts
-use Rattle.sheet.proofs.lines.put_line.Reads as put-line-reads
 
 -- in a row of a known kind, a set that is not empty
 module _ (c : tie.Else1) (kind : Row) (e : c .before .before .args .row ≡ kind) where

@@ -1,6 +1,6 @@
 -- `put_solution`: the three rows, one behind the other. Assumes nothing.
 use mathlib.Core.Path.{_≡_, subst}
-use mathlib.Core.List.{List, _++_}
+use mathlib.Core.List.{_++_}
 use native.Mathlib.Omega.{arith}
 use borrow.Author.Needs.{needs}
 use lib.ListN.{length}
@@ -11,9 +11,6 @@ use Rattle.sheet.proofs.Putting.{room-first, room-then, put-then, put-s
 use Rattle.sheet.proofs.Parts.{solution-parts}
 use Rattle.sheet.proofs.rows.put_solution.Statement.{statement}
 use Rattle.sheet.proofs.rows.put_solution.Tie as tie
-use Rattle.sheet.proofs.rows.put_solution.Reads as reads
-use Rattle.sheet.proofs.rows.put_solution.Lts as lts
-use Rattle.sheet.proofs.rows.put_row.Reads as put-row-reads
 
 -- there is room for the three rows
 all-rooms : (c : tie.Start) → let s : Solution = c .args .solution in

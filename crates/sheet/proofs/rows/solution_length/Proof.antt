@@ -8,9 +8,6 @@ use Rattle.sheet.proofs.Parts.{solution-size}
 use borrow.Author.Needs.{needs}
 use Rattle.sheet.proofs.rows.solution_length.Statement.{statement}
 use Rattle.sheet.proofs.rows.solution_length.Tie as tie
-use Rattle.sheet.proofs.rows.solution_length.Reads as reads
-use Rattle.sheet.proofs.rows.solution_length.Lts as lts
-use Rattle.sheet.proofs.rows.filled.Reads as filled-reads
 
 slice-aggregate-filled : tie.Need-slice-aggregate-filled
 slice-aggregate-filled c = search needs
