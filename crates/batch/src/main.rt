@@ -44,6 +44,7 @@ fn answer_next(room: &mut [u8], number: u64) -> bool {
     }
 }
 
+// Answers record after record, up to the end of the input or to a bad one.
 fn main() {
     let mut room = io::large_buffer();
     let mut number: u64 = 1;

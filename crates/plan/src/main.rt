@@ -20,6 +20,7 @@ fn drop_rest() {
     }
 }
 
+// Prints the sheet of the text on standard input.
 fn main() {
     let mut text = [0u8; ROOM];
     let size = io::read_full(STDIN_FILENO, &mut text);
