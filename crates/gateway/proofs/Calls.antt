@@ -13,14 +13,16 @@ use Rattle.gateway.specs.Call.{Answers}
 abbrev pub second : List ℕ → ℕ
 second values = getD values 1 0
 
-pub answers : (sheet before after : List ℕ) (returned : Written) (size : ℕ) → size ≡ second (valuesOf returned)
-    → Writes sheet before returned after → Answers sheet before size after
-answers sheet before after returned size e w = record {
-  long = e ∙ go (decLt (length before) (length sheet));
+pub answers : (text : List ℕ) (allowance : ℕ) (before after : List ℕ) (returned : Written) (size : ℕ) → size ≡ second (valuesOf returned)
+    → Writes text allowance before returned after → Answers text allowance before size after
+answers text allowance before after returned size e w = record {
+  sheet = w .sheet;
+  of-text = w .of-text;
+  long = e ∙ go (decLt (length before) (length (w .sheet)));
   unchanged = λ h. w .longer h .1;
   written = λ h. w .otherwise h .1;
 }
   where
-    go : Dec (length before < length sheet) → second (valuesOf returned) ≡ length sheet
+    go : Dec (length before < length (w .sheet)) → second (valuesOf returned) ≡ length (w .sheet)
     go (yes h) = ap second (w .longer h .0)
     go (no n) = ap second (w .otherwise (omega arith) .0)

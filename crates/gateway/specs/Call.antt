@@ -4,9 +4,12 @@ use Prim.Native.Nat.{ℕ, _<_, _≤_}
 use mathlib.Core.Path.{_≡_}
 use mathlib.Core.List.{List, _++_}
 use lib.ListN.{length, drop}
+use Rattle.sheet.specs.Sheet.{SheetFor}
 
--- by the sheet and what the buffer held before
-pub record Answers (sheet before : List ℕ) (size : ℕ) (after : List ℕ) : Type 0 where
+-- by the text, the allowance of rounds and what the buffer held before
+pub record Answers (text : List ℕ) (allowance : ℕ) (before : List ℕ) (size : ℕ) (after : List ℕ) : Type 0 where
+  pub sheet : List ℕ
+  pub of-text : SheetFor text allowance sheet
   -- the sheet's length, whether it fits or not
   pub long : size ≡ length sheet
   -- it does not fit: the buffer is unchanged

@@ -1,5 +1,4 @@
 // The sheet for gateways that are written in another language: one function, exported under a C name, over numbers and lent bytes.
-ghost use Rattle.sheet.specs.Sheet.{sheetFor};
 ghost use Rattle.gateway.specs.Call.{Answers};
 use sheet::Written;
 
@@ -7,7 +6,7 @@ use sheet::Written;
 // nothing past it is changed; where it is shorter, nothing of it is changed.
 #[no_mangle]
 pub extern "C" fn hjaltropa_sheet(text: &[u8], allowance: u16, buffer: &mut [u8]) -> usize
-    ensures { λ r. ⌜ Answers (sheetFor (now (text .entry)) allowance) (now (buffer .entry)) r (now (buffer .exit)) ⌝ }
+    ensures { λ r. ⌜ Answers (now (text .entry)) allowance (now (buffer .entry)) r (now (buffer .exit)) ⌝ }
 {
     match sheet::write(text, allowance, buffer) {
         Written::Whole(size) => size,

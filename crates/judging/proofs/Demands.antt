@@ -11,8 +11,8 @@ use Rattle.reading.specs.Promise.{Kept}
 use Rattle.reading.proofs.Promise.{kept}
 use Rattle.solving.specs.declared.Solved.{Solved}
 use Rattle.solving.specs.Solutions.{inSet, outSet, Sets, Contained, membersIn}
-use Rattle.solving.specs.Demand.{LeastAnswer, PlanDemand, Demand}
-use Rattle.solving.proofs.Demands.{once as solved-once, solved-is, demand-2}
+use Rattle.solving.specs.Demand.{LeastAnswer, PlanDemand, Demand2}
+use Rattle.solving.proofs.Demands.{once as solved-once, computed as solved-computed, demand-2}
 use Rattle.judging.specs.declared.Answer.{Answer}
 use Rattle.judging.specs.declared.Breach.{Breach}
 use Rattle.judging.specs.declared.Verdict.{Verdict}
@@ -42,10 +42,9 @@ pub once : (text : List ℕ) (allowance : ℕ) (r q : Answer) → Judges (planIn
 once text allowance r q a b =
     same-answer r q (solved-once text allowance (r .solved) (q .solved) (a .solved) (b .solved)) (a .verdict) (b .verdict)
 
--- it is the computed one
-pub answer-is : (text : List ℕ) (allowance : ℕ) (r : Answer) → Judges (planIn text) allowance r → r ≡ answerOf (planIn text) allowance
-answer-is text allowance r j =
-    same-answer r (answerOf (planIn text) allowance) (solved-is text allowance (r .solved) (j .solved)) (j .verdict) (verdict-for-computed _)
+-- it admits the computed one
+pub computed : (text : List ℕ) (allowance : ℕ) → Judges (planIn text) allowance (answerOf (planIn text) allowance)
+computed text allowance = record { solved = solved-computed text allowance; verdict = verdict-for-computed _ }
 
 -- ---- demand 3
 
@@ -82,7 +81,7 @@ pub demand-3 : (text : List ℕ) (allowance : ℕ) (r : Answer) → Judges (plan
     → (plan : Plan) × (planIn text ≡ read plan) × Demand3 plan (r .verdict)
 demand-3 text allowance r j e = go (planIn text) refl (kept text)
   where
-    demanded : Demand (planIn text) allowance (r .solved)
+    demanded : Demand2 (planIn text) allowance (r .solved)
     demanded = demand-2 text allowance (r .solved) (j .solved)
 
     whole : (plan : Plan) → PlanDemand plan allowance (r .solved) → Demand3 plan (r .verdict)

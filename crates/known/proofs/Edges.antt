@@ -1,8 +1,6 @@
 -- The edges of document 01 that concern reading, computed from the definitions alone: one row each, and one claim over the rows.
 -- Assumes nothing.
 use Prim.Native.Nat.{ℕ, zero, suc}
-use Prim.Native.Char.{code}
-use Prim.Native.String as S
 use Prim.Native.String.{String}
 use mathlib.Core.Path.{_≡_, refl}
 use mathlib.Core.Bool.{Bool, true, _&&_}
@@ -13,10 +11,7 @@ use Rattle.reading.specs.Frames.{table, frameFrom, frameFor, frameIn}
 use Rattle.reading.specs.Rules.{outsideLimits, headRule, nameRule, pairRule, receiveRule, restrictionRule, bracketRule}
 use Rattle.reading.specs.Tree.{listing}
 use Rattle.reading.specs.Plan.{Outcome, refused, read, Plan, grow, readNames, nextNode, readTree, afterHead, readPlan, wrongLength, planIn}
-
-abbrev text : String → List ℕ
-text S.[] = []
-text (S._∷_ c s) = code c ∷ text s
+use Rattle.sheet.specs.Sheet.{text}
 
 -- so many lines of one kind
 abbrev lines : ℕ → String → List ℕ

@@ -1,7 +1,7 @@
--- Document 01's plans with known sheets, P1 to P10, computed from the definitions alone: one row each (P9 has two), and one claim over the
--- rows. Assumes nothing.
+-- Document 01's plans with known sheets, P1 to P10: one row each (P9 has two), and one claim over the rows, that each sheet is its text's. The
+-- checker computes it from the definitions alone. Assumes nothing.
 use Prim.Native.Nat.{ℕ}
-use mathlib.Core.Path.{_≡_, refl}
+use mathlib.Core.Path.{_≡_, refl, subst}
 use mathlib.Core.List.{List, [], _∷_, _++_, map}
 use Rattle.reading.specs.Text.{linesOf, isDigit, valueOf, allDigits, isFaulty, bytesOf}
 use Rattle.reading.specs.Frames.{table, frameFrom, frameFor, frameIn}
@@ -10,7 +10,9 @@ use Rattle.reading.specs.Tree.{listing}
 use Rattle.reading.specs.Plan.{grow, readNames, nextNode, readTree, afterHead, readPlan, wrongLength, planIn}
 use Rattle.solving.specs.Compute.{wanted, run, solutionOf}
 use Rattle.judging.specs.Compute.{lowest, verdictFrom}
-use Rattle.sheet.specs.Sheet.{setLines, text, digit, hexLine, hexLines, sheetFor}
+use Rattle.sheet.specs.Sheet.{setLines, text, digit, hexLine, hexLines, SheetFor}
+use Rattle.sheet.specs.Compute.{sheetFor}
+use Rattle.sheet.proofs.Sheets.{sheet-computed}
 
 -- a plan's text, an allowance of rounds, and the sheet
 pub record Row : Type 0 where
@@ -73,9 +75,30 @@ rows =
     ∷ row (text "") allowed (text "3f010000\nrefused\n")
     ∷ []
 
-pub known : map (λ (r : Row). sheetFor (r .plan) (r .allowance)) rows ≡ map (λ (r : Row). r .sheet) rows
+-- the sheets as they are computed, and as they stand in the rows
+abbrev computed : List Row → List (List ℕ)
+computed rs = map (λ (r : Row). sheetFor (r .plan) (r .allowance)) rs
+
+abbrev sheets : List Row → List (List ℕ)
+sheets rs = map (λ (r : Row). r .sheet) rs
+
+computed-rows : computed rows ≡ sheets rows
 unfolding linesOf isDigit valueOf allDigits isFaulty bytesOf table frameFrom frameFor frameIn
     outsideLimits headRule nameRule pairRule receiveRule restrictionRule bracketRule listing
     grow readNames nextNode readTree afterHead readPlan wrongLength planIn
     wanted run solutionOf lowest verdictFrom setLines digit hexLine hexLines sheetFor rows
-known = refl
+computed-rows = refl
+
+-- each row's sheet is that of its text within its allowance
+abbrev pub Known : List Row → Type 0
+Known [] = Unit {0}
+Known (r ∷ rs) = SheetFor (r .plan) (r .allowance) (r .sheet) × Known rs
+
+from-computed : (rs : List Row) → computed rs ≡ sheets rs → Known rs
+from-computed [] e = tt
+from-computed (r ∷ rs) e =
+    let first : sheetFor (r .plan) (r .allowance) ≡ r .sheet = cc in
+    (subst (SheetFor (r .plan) (r .allowance)) first (sheet-computed (r .plan) (r .allowance)), from-computed rs cc)
+
+pub known : Known rows
+known = from-computed rows computed-rows

@@ -6,3 +6,4 @@ pub mod Filling
 pub mod Parts
 -- The promise, over texts.
 pub mod Sheets
+pub mod Demands

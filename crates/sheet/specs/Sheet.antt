@@ -5,6 +5,7 @@ use Prim.Native.Char.{code}
 use Prim.Native.String as S
 use Prim.Native.String.{String}
 use mathlib.Core.Bool.{cond}
+use mathlib.Core.Path.{_≡_}
 use mathlib.Core.List.{List, [], _∷_, _++_}
 use lib.Dec.{eqb, ltb}
 use Rattle.reading.specs.declared.Refusal.{Refusal}
@@ -15,8 +16,7 @@ use Rattle.solving.specs.declared.Solved.{Solved}
 use Rattle.judging.specs.declared.Answer.{Answer}
 use Rattle.judging.specs.declared.Verdict.{Verdict}
 use Rattle.judging.specs.declared.Verdict.the-variants.{Unjudged, Yes, No}
-use Rattle.judging.specs.Judge.{bytesOf}
-use Rattle.judging.specs.Compute.{answerOf}
+use Rattle.judging.specs.Judge.{bytesOf, Judges}
 
 -- ---- numbers on a line
 
@@ -106,6 +106,8 @@ phrase (No b) = text "flow breach\n"
 abbrev pub sheetOf : Answer → List ℕ
 sheetOf a = hexLines (byteLines (a .solved) (a .verdict)) ++ phrase (a .verdict)
 
--- of a text and an allowance of rounds
-unfoldable pub sheetFor : List ℕ → ℕ → List ℕ
-sheetFor plan allowance = sheetOf (answerOf (planIn plan) allowance)
+-- of a text within an allowance of rounds: that of what judging answers
+pub record SheetFor (plan : List ℕ) (allowance : ℕ) (sheet : List ℕ) : Type 0 where
+  pub answer : Answer
+  pub judged : Judges (planIn plan) allowance answer
+  pub is : sheet ≡ sheetOf answer

@@ -11,19 +11,19 @@ use Rattle.reading.specs.Promise.{Kept}
 use Rattle.reading.proofs.Promise.{kept}
 use Rattle.solving.specs.declared.Solved.{Solved}
 use Rattle.solving.specs.Solve.{Solves}
-use Rattle.solving.specs.Demand.{Demand}
+use Rattle.solving.specs.Demand.{Demand2}
 use Rattle.solving.specs.Compute.{solvedOf}
-use Rattle.solving.proofs.Promises.{solves-once, solves-computed, answered-at-ceiling, outcome-demand}
+use Rattle.solving.proofs.Promises.{solves-once, outcome-computed, answered-at-ceiling, outcome-demand}
 
 -- any two outcomes that the contract admits are equal
 pub once : (text : List ℕ) (allowance : ℕ) (r q : Solved) → Solves (planIn text) allowance r → Solves (planIn text) allowance q → r ≡ q
 once text = solves-once (planIn text)
 
--- it is the computed one
-pub solved-is : (text : List ℕ) (allowance : ℕ) (r : Solved) → Solves (planIn text) allowance r → r ≡ solvedOf (planIn text) allowance
-solved-is text allowance r = solves-computed (planIn text) allowance r (kept text)
+-- it admits the computed one
+pub computed : (text : List ℕ) (allowance : ℕ) → Solves (planIn text) allowance (solvedOf (planIn text) allowance)
+computed text allowance = outcome-computed (planIn text) allowance (kept text)
 
-pub demand-2 : (text : List ℕ) (allowance : ℕ) (r : Solved) → Solves (planIn text) allowance r → Demand (planIn text) allowance r
+pub demand-2 : (text : List ℕ) (allowance : ℕ) (r : Solved) → Solves (planIn text) allowance r → Demand2 (planIn text) allowance r
 demand-2 text allowance r = outcome-demand (planIn text) allowance r (kept text)
 
 -- with an allowance of 17,409 no text is refused 14

@@ -16,7 +16,7 @@ use Rattle.solving.specs.Solutions.{Fact, binderSet, inSet, outSet, memb
 use Rattle.solving.specs.Rounds.{after, Count, Exceeds}
 use Rattle.solving.specs.Least.{Least, LeastArrays}
 use Rattle.solving.specs.Solve.{Answered, Solves, refusedBy, overAllowance}
-use Rattle.solving.specs.Demand.{LeastAnswer, PlanDemand, Demand}
+use Rattle.solving.specs.Demand.{LeastAnswer, PlanDemand, Demand2}
 use Rattle.solving.specs.Compute.{Run, unfinished, settled, run, solutionOf, answerOf, solvedOf}
 use Rattle.solving.proofs.Lists.{Mem}
 use Rattle.solving.proofs.Leastness.{count-least, count-unique, least-same}
@@ -92,16 +92,16 @@ exceeds-of p allowance busy n c = go (decLt (c .earlier) allowance)
     go (yes q) = absurd (busy (c .earlier) q (c .settled))
     go (no q) = let e = c .is in omega arith
 
-pub computed : (o : Outcome Plan) (allowance : ℕ) → Kept o → Solves o allowance (solvedOf o allowance)
-computed (refused f) allowance g = refl
-computed (read plan) allowance g = go (run (plan .tree) allowance 0 []) (whole-run (plan .tree) allowance)
+pub outcome-computed : (o : Outcome Plan) (allowance : ℕ) → Kept o → Solves o allowance (solvedOf o allowance)
+outcome-computed (refused f) allowance g = refl
+outcome-computed (read plan) allowance g = go (run (plan .tree) allowance 0 []) (whole-run (plan .tree) allowance)
   where
     go : (r : Run) → RunIs (plan .tree) allowance r → Solves (read plan) allowance (answerOf (plan .head) r)
     go unfinished w = inr (record { exceeds = exceeds-of (plan .tree) allowance w; is = refl })
     go (settled n s) w = inl (computed-answer plan g n s (w .0) (w .2) allowance (w .1))
 
-pub solves-computed : (o : Outcome Plan) (allowance : ℕ) (r : Solved) → Kept o → Solves o allowance r → r ≡ solvedOf o allowance
-solves-computed o allowance r g s = solves-once o allowance r (solvedOf o allowance) s (computed o allowance g)
+solves-computed : (o : Outcome Plan) (allowance : ℕ) (r : Solved) → Kept o → Solves o allowance r → r ≡ solvedOf o allowance
+solves-computed o allowance r g s = solves-once o allowance r (solvedOf o allowance) s (outcome-computed o allowance g)
 
 -- ---- demand 2
 
@@ -142,7 +142,7 @@ plan-demand plan allowance r g e =
           λ l. absurd (omega arith),
         )
 
-pub outcome-demand : (o : Outcome Plan) (allowance : ℕ) (r : Solved) → Kept o → Solves o allowance r → Demand o allowance r
+pub outcome-demand : (o : Outcome Plan) (allowance : ℕ) (r : Solved) → Kept o → Solves o allowance r → Demand2 o allowance r
 outcome-demand o allowance r g s = record {
   refusals = λ f e. subst (λ k. Solves k allowance r) e s;
   plans = λ plan e. plan-demand plan allowance r (subst Kept e g) (solves-computed o allowance r g s ∙ ap (λ k. solvedOf k allowance) e);

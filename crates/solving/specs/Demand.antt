@@ -29,6 +29,6 @@ pub record PlanDemand (plan : Plan) (allowance : ℕ) (r : Solved) : Type 1 wher
   pub over : allowance < count → r ≡ refusedBy overAllowance
 
 -- what a text reads as
-pub record Demand (outcome : Outcome Plan) (allowance : ℕ) (r : Solved) : Type 1 where
+pub record Demand2 (outcome : Outcome Plan) (allowance : ℕ) (r : Solved) : Type 1 where
   pub refusals : (f : Refusal) → outcome ≡ refused f → r ≡ refusedBy f
   pub plans : (plan : Plan) → outcome ≡ read plan → PlanDemand plan allowance r

@@ -21,7 +21,7 @@ same-length c = search needs
 returns : tie.Need-returns
 returns c =
     let call = c .before .before .before .before .before .write in
-    answers _ _ _ (call .result) _ (ap (λ w. second (valuesOf w)) (sym (c .before .size .given .1))) (call .ensures)
+    answers _ _ _ _ (call .result) _ (ap (λ w. second (valuesOf w)) (sym (c .before .size .given .1))) (call .ensures)
 
 same-length-2 : tie.Need-same-length-2
 same-length-2 c = search needs
@@ -29,7 +29,7 @@ same-length-2 c = search needs
 returns-2 : tie.Need-returns-2
 returns-2 c =
     let call = c .before .before .before .before .before .write in
-    answers _ _ _ (call .result) _ (ap (λ w. second (valuesOf w)) (sym (c .before .size2 .given .1))) (call .ensures)
+    answers _ _ _ _ (call .result) _ (ap (λ w. second (valuesOf w)) (sym (c .before .size2 .given .1))) (call .ensures)
 
 pub hjaltropa-sheet-spec : {M : Type 1} → statement M
 hjaltropa-sheet-spec =

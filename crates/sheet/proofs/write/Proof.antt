@@ -1,9 +1,6 @@
--- `write`: the answer that `judge` gives has the sheet of the text; the two returns are the two ways of writing it. Assumes nothing.
-use mathlib.Core.Path.{sym, ap, _∙_}
+-- `write`: the sheet of the text is that of the answer which `judge` gives; the two returns are the two ways of writing it. Assumes nothing.
 use borrow.Author.Needs.{needs}
-use lib.ListN.{length}
-use Rattle.sheet.proofs.Putting.{put-same}
-use Rattle.sheet.proofs.Sheets.{short-writes, whole-writes, sheet-is}
+use Rattle.sheet.proofs.Sheets.{short-writes, whole-writes}
 use Rattle.sheet.proofs.write.Statement.{statement}
 use Rattle.sheet.proofs.write.Tie as tie
 
@@ -14,11 +11,7 @@ length-of-requires : tie.Need-length-of-requires
 length-of-requires c κs = search needs
 
 returns : tie.Need-returns
-returns c =
-    let judged = c .before .before in
-    let start = judged .before .before .before in
-    let sheet = sheet-is (start .args .text .now) (start .args .allowance) (judged .judge .result) (judged .judge .ensures) in
-    short-writes _ _ _ (c .before .length-of .ensures ∙ ap length (sym sheet)) (c .if1 .taken)
+returns c = short-writes (c .before .before .judge .ensures) _ _ (c .before .length-of .ensures) (c .if1 .taken)
 
 put-answer-requires : tie.Need-put-answer-requires
 put-answer-requires c κs = search needs
@@ -31,9 +24,7 @@ returns-2 c =
     let put = c .before .before in
     let tested = put .before .before in
     let judged = tested .before .before in
-    let start = judged .before .before .before in
-    let sheet = sheet-is (start .args .text .now) (start .args .allowance) (judged .judge .result) (judged .judge .ensures) in
-    whole-writes _ _ _ _ _ (tested .before .length-of .ensures ∙ ap length (sym sheet)) (tested .if1 .left) (put-same sheet (put .put-answer .ensures))
+    whole-writes (judged .judge .ensures) _ _ _ _ (tested .before .length-of .ensures) (tested .if1 .left) (put .put-answer .ensures)
 
 pub write-spec : {M : Type 1} → statement M
 write-spec = tie.close (tie.spec judge-requires length-of-requires returns put-answer-requires same-length returns-2)

@@ -1,0 +1,114 @@
+-- What the contract of `write` comes to, over texts: it admits one outcome; a buffer of the sheet's length is enough, where one byte less is
+-- not; and demand 1. Assumes nothing.
+use Prim.Native.Nat.{ℕ, _+_, _<_, _≤_}
+use mathlib.Core.Path.{_≡_, sym, ap, subst, _∙_}
+use mathlib.Core.List.{List, [], _∷_, _++_, append-nil}
+use native.Mathlib.Decide.{decLe}
+use native.Mathlib.Omega.{arith}
+use lib.ListN.{length, drop, length-append, drop-of-length-le}
+use Rattle.reading.specs.declared.Refusal.{Refusal}
+use Rattle.reading.specs.Plan.{refused, planIn}
+use Rattle.reading.specs.Promise.{Kept}
+use Rattle.reading.proofs.Promise.{kept}
+use Rattle.solving.specs.declared.Solved.{Solved}
+use Rattle.judging.specs.declared.Answer.{Answer}
+use Rattle.judging.specs.declared.Verdict.the-variants.{Unjudged}
+use Rattle.judging.specs.Judge.{Judges}
+use Rattle.judging.proofs.Verdicts.{verdict-once}
+use Rattle.judging.proofs.Demands.{once as answer-once}
+use Rattle.sheet.specs.declared.Written.{Written}
+use Rattle.sheet.specs.declared.Written.the-variants.{Whole, TooShort}
+use Rattle.sheet.specs.Sheet.{sheetOf}
+use Rattle.sheet.specs.Write.{valuesOf, Writes}
+use Rattle.sheet.specs.Demand.{RefusedBy, Demand1}
+use Rattle.sheet.proofs.Sheets.{sheet-once}
+
+-- ---- outcomes
+
+once-values : (w v : Written) → valuesOf w ≡ valuesOf v → w ≡ v
+once-values (Whole n) (Whole m) e = cc
+once-values (Whole n) (TooShort m) e = let z : _≡_ {A = ℕ} 0 15 = cc in absurd (omega arith)
+once-values (TooShort n) (Whole m) e = let z : _≡_ {A = ℕ} 15 0 = cc in absurd (omega arith)
+once-values (TooShort n) (TooShort m) e = cc
+
+module _ {text : List ℕ} {allowance : ℕ} {before : List ℕ} where
+  -- any two outcomes that the contract admits are equal
+  pub once : (w v : Written) (after later : List ℕ) → Writes text allowance before w after → Writes text allowance before v later → (w ≡ v) × (after ≡ later)
+  once w v after later a b = go (decLe (length (a .sheet)) (length before))
+    where
+      same : a .sheet ≡ b .sheet
+      same = sheet-once (a .of-text) (b .of-text)
+
+      go : Dec (length (a .sheet) ≤ length before) → (w ≡ v) × (after ≡ later)
+      go (yes h) =
+          let p = a .otherwise h in
+          let q = b .otherwise (omega (arith, ap length same)) in
+          let values = p .0 ∙ (ap (λ s. 0 ∷ length s ∷ []) same ∙ sym (q .0)) in
+          (once-values w v values, p .1 ∙ (ap (λ s. s ++ drop (length s) before) same ∙ sym (q .1)))
+      go (no n) =
+          let p = a .longer (omega arith) in
+          let q = b .longer (omega (arith, ap length same)) in
+          let values = p .0 ∙ (ap (λ s. 15 ∷ length s ∷ []) same ∙ sym (q .0)) in
+          (once-values w v values, p .1 ∙ sym (q .1))
+
+  module _ {returned : Written} {after : List ℕ} (w : Writes text allowance before returned after) where
+    -- a buffer of exactly the sheet's length is enough, and holds just the sheet
+    pub exact : length before ≡ length (w .sheet) → (returned ≡ Whole (length (w .sheet))) × (after ≡ w .sheet)
+    exact e =
+        let p = w .otherwise (omega arith) in
+        let past : drop (length (w .sheet)) before ≡ [] = drop-of-length-le before {i = length (w .sheet)} (omega arith) in
+        (once-values returned (Whole (length (w .sheet))) (p .0), p .1 ∙ (ap (λ l. w .sheet ++ l) past ∙ append-nil (w .sheet)))
+
+    -- one byte less is refused 15, and the buffer is unchanged
+    pub one-less : length before + 1 ≡ length (w .sheet) → (returned ≡ TooShort (length (w .sheet))) × (after ≡ before)
+    one-less e =
+        let p = w .longer (omega arith) in
+        (once-values returned (TooShort (length (w .sheet))) (p .0), p .1)
+
+    -- a length that is returned with the sheet lies within the buffer
+    pub within : {size : ℕ} → returned ≡ Whole size → size ≤ length after
+    within {size} e = go (decLe (length (w .sheet)) (length before))
+      where
+        go : Dec (length (w .sheet) ≤ length before) → size ≤ length after
+        go (yes h) =
+            let p = w .otherwise h in
+            let q : 0 ∷ size ∷ [] ≡ 0 ∷ length (w .sheet) ∷ [] = sym (ap valuesOf e) ∙ p .0 in
+            let same : size ≡ length (w .sheet) = cc in
+            omega (arith, ap length (p .1), length-append (w .sheet) (drop (length (w .sheet)) before))
+        go (no n) =
+            let h : length before < length (w .sheet) = omega arith in
+            let q : 0 ∷ size ∷ [] ≡ 15 ∷ length (w .sheet) ∷ [] = sym (ap valuesOf e) ∙ w .longer h .0 in
+            let z : _≡_ {A = ℕ} 0 15 = cc in
+            absurd (omega arith)
+
+-- ---- demand 1
+
+refused-answer : (allowance : ℕ) (f : Refusal) (a : Answer) → Kept (refused f) → Judges (refused f) allowance a → RefusedBy f a
+refused-answer allowance f a k j = record {
+  least = k .0;
+  most = k .1;
+  is = λ i. record { solved = j .solved i; verdict = unjudged i };
+}
+  where
+    number : a .solved .refusal .number ≡ f .number
+    number = ap (λ (s : Solved). s .refusal .number) (j .solved)
+
+    unjudged : a .verdict ≡ Unjudged
+    unjudged = verdict-once (a .verdict) Unjudged (j .verdict .refused (λ e. omega (arith, e, k .0, number)))
+
+pub demand-1 : (text : List ℕ) (allowance : ℕ) (before : List ℕ) (returned : Written) (after : List ℕ) → Writes text allowance before returned after
+    → Demand1 text allowance before after
+demand-1 text allowance before returned after w = record {
+  answer = answer;
+  judged = w .of-text .judged;
+  only = λ a j. answer-once text allowance a answer j (w .of-text .judged);
+  refusals = λ f e. refused-answer allowance f answer (subst Kept e (kept text)) (subst (λ o. Judges o allowance answer) e (w .of-text .judged));
+  untouched = λ h. w .longer (omega (arith, long)) .1;
+  written = λ h. w .otherwise (omega (arith, long)) .1 ∙ ap (λ s. s ++ drop (length s) before) (w .of-text .is);
+}
+  where
+    answer : Answer
+    answer = w .of-text .answer
+
+    long : length (w .sheet) ≡ length (sheetOf answer)
+    long = ap length (w .of-text .is)
