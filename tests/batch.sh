@@ -1,13 +1,12 @@
 #!/bin/sh
-# What batch prints for records that are no records. Run from the root, with the program built; another program may be named.
+# What batch prints for records that are no records. Run from the root, with the program built.
 set -u
-program=${1-target/bin/batch}
 failed=0
 passed=0
 
 # expect NAME INPUT OUTPUT: both in the notation of printf.
 expect() {
-    got=$(printf "$2" | "$program" && echo .)
+    got=$(printf "$2" | ./run target/bin/batch && echo .)
     wanted=$(printf "$3" && echo .)
     if [ "$got" = "$wanted" ]; then
         passed=$((passed + 1))

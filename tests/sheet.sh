@@ -77,11 +77,13 @@ cp sheet "$work/bare/sheet"
 expect 'no toolchain' 3 "$work/nothing" env PATH=/usr/bin:/bin "$work/bare/sheet" examples/keeps.plan
 says 'no toolchain' 'toolchain'
 
-# Every refusal has its words.
+# Every refusal has its words: what runs the program gives the refusal.
 mkdir -p "$work/bare/target/bin"
+: >"$work/bare/target/bin/plan"
+: >"$work/bare/run"
+chmod +x "$work/bare/target/bin/plan" "$work/bare/run"
 for number in 01 02 03 04 05 06 07 08 09 0a 0b 0c 0d 0e; do
-    printf '#!/bin/sh\necho 3f%s0003\necho refused\n' $number >"$work/bare/target/bin/plan"
-    chmod +x "$work/bare/target/bin/plan"
+    printf '#!/bin/sh\necho 3f%s0003\necho refused\n' $number >"$work/bare/run"
     "$work/bare/sheet" --words "$work/nothing" | tail -n 1 >"$work/out"
     if grep -q "at line 3: .* (refusal $(printf '%d' 0x$number))\.$" "$work/out" && ! grep -q 'does not know' "$work/out"; then
         passed=$((passed + 1))

@@ -10,7 +10,7 @@ use crate::solving::AMPLE_ROUNDS;
 use crate::vectors::vectors;
 
 const USAGE: &str =
-    "use: second sheet [ALLOWANCE] | batch | records COUNT SEED | vectors | fuzz COUNT SEED PROGRAM";
+    "use: second sheet [ALLOWANCE] | batch | records COUNT SEED | vectors | fuzz COUNT SEED PROGRAM [WORD ..]";
 
 /// Runs the command that the words name. False means that sheets differed; an
 /// error is one line for the user, and nothing but a failed write or a failed
@@ -34,9 +34,9 @@ pub fn run(
             print_records(count, seed, &mut output)?
         }
         ["vectors"] => print_vectors(&mut output)?,
-        ["fuzz", count, seed, program] => {
+        ["fuzz", count, seed, ref command @ ..] if !command.is_empty() => {
             let (count, seed) = (number(count, u64::MAX)?, number(seed, u64::MAX)?);
-            print_fuzz(count, seed, program, &mut output)?
+            print_fuzz(count, seed, command, &mut output)?
         }
         _ => return Err(USAGE.to_string()),
     };
@@ -88,10 +88,10 @@ fn print_vectors(output: &mut impl Write) -> Result<bool, String> {
 fn print_fuzz(
     count: u64,
     seed: u64,
-    program: &str,
+    command: &[&str],
     output: &mut impl Write,
 ) -> Result<bool, String> {
-    let tally = fuzz(count, seed, program, output)?;
+    let tally = fuzz(count, seed, command, output)?;
     writeln!(output, "{} same, {} different", tally.same, tally.different).map_err(cannot_write)?;
     Ok(tally.different == 0)
 }

@@ -21,12 +21,12 @@ pub struct Tally {
     pub different: u64,
 }
 
-/// Runs a program over so many records of a seed and shows the first
-/// differences; the error is a line for the user.
+/// Runs a command, a program and the words for it, over so many records of a
+/// seed and shows the first differences; the error is a line for the user.
 pub fn fuzz(
     count: u64,
     seed: u64,
-    program: &str,
+    command: &[&str],
     output: &mut impl Write,
 ) -> Result<Tally, String> {
     let mut drawing = Drawing::new(seed);
@@ -34,8 +34,8 @@ pub fn fuzz(
     while tally.same + tally.different < count {
         let wanted = RECORDS_PER_RUN.min(count - tally.same - tally.different);
         let records: Vec<Record> = drawing.by_ref().take(wanted as usize).collect();
-        let answer =
-            ask(program, &records).map_err(|error| format!("cannot run {program}: {error}"))?;
+        let answer = ask(command, &records)
+            .map_err(|error| format!("cannot run {}: {error}", command.join(" ")))?;
         for (record, got) in records.iter().zip(split_sheets(&answer, records.len())) {
             let expected = sheet(&record.text, record.allowance);
             if got == expected.as_bytes() {
@@ -53,11 +53,15 @@ pub fn fuzz(
     Ok(tally)
 }
 
-/// What a program prints when it is fed the records. It may end early, and what
+/// What a command prints when it is fed the records. It may end early, and what
 /// it prints past the length of the longest possible answer is cut off. How it
 /// ends is not judged, only what it prints.
-fn ask(program: &str, records: &[Record]) -> io::Result<Vec<u8>> {
+fn ask(command: &[&str], records: &[Record]) -> io::Result<Vec<u8>> {
+    let (program, words) = command
+        .split_first()
+        .ok_or(io::Error::other("no program is named"))?;
     let mut child = Command::new(program)
+        .args(words)
         .stdin(Stdio::piped())
         .stdout(Stdio::piped())
         .spawn()?;
