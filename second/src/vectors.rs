@@ -49,7 +49,7 @@ const KNOWN: &[&str] = &[
 /// Every record of the vectors: the known plans and the edges, each answered
 /// one under the allowances around its count too, then the random ones.
 pub fn vectors() -> Vec<Record> {
-    let known = KNOWN.iter().map(|words| lines(words));
+    let known = KNOWN.iter().map(|words| text(words));
     let texts = known.chain(edges()).chain([RELAY.to_vec()]);
     let around = texts.flat_map(|text| {
         let allowances = allowances(&text);
@@ -68,7 +68,7 @@ fn edges() -> Vec<Vec<u8>> {
     let head = "010101000000 ";
     let free: String = (0..64).map(|name| format!("02{name:02x}00 ")).collect();
     let steps = "11 ".repeat(31);
-    let mut longest = lines("010101000000 10");
+    let mut longest = text("010101000000 10");
     longest.resize(LONGEST_TEXT, b'z');
     let mut longer = longest.clone();
     longer.push(b'\n');
@@ -77,25 +77,25 @@ fn edges() -> Vec<Vec<u8>> {
         b"\n".to_vec(),
         b"010101000000\n10".to_vec(),
         b"010101000000\r\n10\r\n".to_vec(),
-        lines(&format!("010101000040 {free} 10")),
-        lines(&format!("010101000041 {free} 10")),
-        lines(&format!("{head}{}", bush(256))),
-        lines(&format!("{head}{}", bush(257))),
-        lines(&format!("{head}{steps} 10")),
-        lines(&format!("{head}{steps} 11 10")),
+        text(&format!("010101000040 {free} 10")),
+        text(&format!("010101000041 {free} 10")),
+        text(&format!("{head}{}", bush(256))),
+        text(&format!("{head}{}", bush(257))),
+        text(&format!("{head}{steps} 10")),
+        text(&format!("{head}{steps} 11 10")),
         longest,
         longer,
     ]
 }
 
-/// The text whose lines are the words.
-fn lines(words: &str) -> Vec<u8> {
+/// The text whose lines are the words, each with a line feed.
+pub fn text(words: &str) -> Vec<u8> {
     let lines = words.split_whitespace().map(|word| format!("{word}\n"));
     lines.collect::<String>().into_bytes()
 }
 
 /// The words of a tree of exactly so many nodes and of small depth.
-fn bush(nodes: usize) -> String {
+pub fn bush(nodes: usize) -> String {
     match nodes {
         1 => "10 ".to_string(),
         2 => "11 10 ".to_string(),

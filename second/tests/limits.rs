@@ -3,20 +3,9 @@
 mod common;
 
 use common::{expect, text};
+use second::vectors::bush;
 
 const CLEAR: [&str; 3] = ["2f0001", "3001", "flow clear"];
-
-/// The words of a tree of exactly so many nodes and of small depth.
-fn bush(nodes: usize) -> String {
-    match nodes {
-        1 => "10 ".to_string(),
-        2 => "11 10 ".to_string(),
-        _ => {
-            let first = (nodes - 1) / 2;
-            "15 ".to_string() + &bush(first) + &bush(nodes - 1 - first)
-        }
-    }
-}
 
 /// The words of a plan that has so many nodes before a given last line at the
 /// given depth, which is at least 2.

@@ -2,14 +2,7 @@
 
 use second::sheet::sheet;
 use second::solving::AMPLE_ROUNDS;
-
-/// The text whose lines are the given words, each with a line feed.
-pub fn text(words: &str) -> Vec<u8> {
-    words
-        .split_whitespace()
-        .flat_map(|word| format!("{word}\n").into_bytes())
-        .collect()
-}
+pub use second::vectors::text;
 
 /// Checks the lines of the sheet that a text gets under an ample allowance.
 #[track_caller]
