@@ -3,7 +3,7 @@
 use Prim.Native.Nat.{ℕ, zero, suc, _+_, _-_, _<_}
 use mathlib.Core.Path.{_≡_, refl, sym, ap, _∙_, subst}
 use mathlib.Core.Bool.{Bool, true, false, cond}
-use mathlib.Core.List.{List, [], _∷_, _++_, map}
+use mathlib.Core.List.{List, [], _∷_, _++_, map, map-append}
 use native.Mathlib.Numerals.{add-one, sub-one}
 use native.Mathlib.Omega.{arith}
 use lib.Dec.{leb, eqb}
@@ -22,10 +22,11 @@ use Rattle.reading.specs.Frames.{Judged, faulty, fine, andOn, treeLines,
 use Rattle.reading.specs.Scope.{Scope, inside}
 use Rattle.reading.specs.Rules.{nodeIn}
 use Rattle.reading.specs.Limits.{mostNodes}
-use Rattle.reading.specs.Tree.{Tree, silent, send, receive, sum, parallel, restriction, match, replication, bracket, listing}
+use Rattle.reading.specs.Tree.{Tree, silent, send, receive, sum, parallel, restriction, match, replication, bracket, branchCount, listing}
 use Rattle.reading.specs.Plan.{Outcome, refused, read, Place, rest, onward, refuse, andThen, Grown, Reader, one, two, grow, nextNode, readTree, slot}
-use Rattle.reading.specs.Working.{restAt, endAt, stepOf, Stands, placeAt, Past, Grows, GrowsOn, Branches, branchesOf}
+use Rattle.reading.specs.Working.{restAt, endAt, stepOf, Stands, placeAt, Past, Grows, GrowsOn, Branches}
 use Rattle.reading.proofs.Lines.{rest-split}
+use Rattle.reading.proofs.Stores.{sets-append}
 use Rattle.reading.proofs.Table.{Framing, framing}
 
 -- ---- one line on
@@ -85,17 +86,6 @@ module _ (h : Head) (scope : Scope) (count : ℕ) (place : Place) where
   tree-fine zero node n e = absurd (n refl)
   tree-fine (suc depth) node n e = rw (e, sub-one)
 
--- ---- stores
-
-sets-append : {A : Type 0} (l : List A) (i : ℕ) (xs ys : List A) → sets l i (xs ++ ys) ≡ sets (sets l i xs) (i + length xs) ys
-sets-append l i [] ys = ap (λ (k : ℕ). sets l k ys) (omega arith)
-sets-append l i (x ∷ xs) ys =
-    sets-append (set l i x) (suc i) xs ys ∙ ap (λ (k : ℕ). sets (sets (set l i x) (suc i) xs) k ys) (omega arith)
-
-map-append : {A B : Type 0} (f : A → B) (xs ys : List A) → map f (xs ++ ys) ≡ map f xs ++ map f ys
-map-append f [] ys = refl
-map-append f (x ∷ xs) ys = ap (λ (l : List _). f x ∷ l) (map-append f xs ys)
-
 -- ---- a node with its branches
 
 module _ (s : List ℕ) (nodes : List Slot) (n : ℕ) (node : Node) where
@@ -140,7 +130,7 @@ module _ (s : List ℕ) (nodes : List Slot) (n : ℕ) (branch : Reader) (st r : 
   two-on node f h stored b = two-grows s nodes n node f h branch (placeAt s (st .cursor)) r (rw (counted, stored) at b)
 
   pub grow-grows : (node : Node) → st .nodes ≡ set nodes n (slot node)
-      → Branches (branchesOf node) s st branch r → Grows s nodes n (grow node branch (n + 1) (placeAt s (st .cursor))) r
+      → Branches (branchCount node) s st branch r → Grows s nodes n (grow node branch (n + 1) (placeAt s (st .cursor))) r
   unfolding grow listing
   grow-grows Nil stored b = record {
     good = ap (λ (t : State). t .good) b ∙ good;
@@ -221,7 +211,7 @@ module _ (s : List ℕ) (h : Head) (scope : Scope) (depth : ℕ) (st r : State) 
 
     pub node-grown : (more : State) (inner : Scope) (many : ℕ)
         → Past s (st .cursor) (more .cursor) → Stands s (more .cursor) → more .good ≡ true → more .count ≡ st .count + 1
-        → more .nodes ≡ set (st .nodes) (st .count) (slot node) → inner ≡ inside node scope → many ≡ branchesOf node
+        → more .nodes ≡ set (st .nodes) (st .count) (slot node) → inner ≡ inside node scope → many ≡ branchCount node
         → Branches many s more (readTree (depth - 1) h inner) r
         → Grows s (st .nodes) (st .count) (readTree depth h scope (st .count) (placeAt s (st .cursor))) r
     node-grown more inner many past stands fine-state counted stored entered arity b =

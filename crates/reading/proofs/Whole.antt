@@ -27,7 +27,7 @@ use Rattle.reading.proofs.Tests.{or-false}
 use Rattle.reading.proofs.Lines.{rest-none, rest-split}
 use Rattle.reading.proofs.Table.{framing}
 use Rattle.reading.proofs.Growing.{onward-past, true-not-false}
-use Rattle.reading.proofs.Padding.{pad}
+use Rattle.reading.proofs.Stores.{pad}
 use Rattle.reading.proofs.RulesWithin.{Judges}
 use Rattle.reading.proofs.TreeWithin.{Ends}
 use Rattle.reading.proofs.Promise.{after-within, first-within}

@@ -1,10 +1,23 @@
--- Document 01, 'Plan text': the tree of a plan, and its nodes in prefix order.
+-- Document 01, 'Plan text': the branches of a node, the tree of a plan, and its nodes in prefix order.
 -- Assumes nothing.
 use Prim.Native.Nat.{ℕ, suc, max}
 use mathlib.Core.List.{List, [], _∷_, _++_}
 use Rattle.reading.specs.declared.Marker.{Marker}
 use Rattle.reading.specs.declared.Node.{Node}
 use Rattle.reading.specs.declared.Node.the-variants.{Nil, Silent, Send, Receive, Sum, Parallel, Restriction, Match, Replication, Bracket}
+
+-- how many branches a node has
+abbrev pub branchCount : Node → ℕ
+branchCount Nil = 0
+branchCount Silent = 1
+branchCount (Send x y) = 1
+branchCount (Receive x y b) = 1
+branchCount Sum = 2
+branchCount Parallel = 2
+branchCount (Restriction x c) = 1
+branchCount (Match x y) = 1
+branchCount Replication = 1
+branchCount (Bracket l) = 1
 
 -- a plan's tree. A receive has its channel's marker, the name that it binds and its binder; a restriction its name and its channel
 pub data Tree : Type 0 where

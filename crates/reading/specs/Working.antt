@@ -158,15 +158,3 @@ Branches (suc zero) s before branch r =
     Grows s (before .nodes) (before .count) (branch (before .count) (placeAt s (before .cursor))) r
 Branches (suc (suc n)) s before branch r =
     GrowsOn s (before .nodes) (before .count) branch (branch (before .count) (placeAt s (before .cursor))) r
-
-abbrev pub branchesOf : Node → ℕ
-branchesOf node.Nil = 0
-branchesOf node.Silent = 1
-branchesOf (node.Send x y) = 1
-branchesOf (node.Receive x y b) = 1
-branchesOf node.Sum = 2
-branchesOf node.Parallel = 2
-branchesOf (node.Restriction x c) = 1
-branchesOf (node.Match x y) = 1
-branchesOf node.Replication = 1
-branchesOf (node.Bracket l) = 1

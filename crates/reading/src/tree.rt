@@ -4,8 +4,9 @@ ghost use mathlib.Core.Bool.{false};
 ghost use Prim.Native.Nat.{_≤_};
 ghost use lib.ListN.{length};
 ghost use Rattle.reading.specs.Limits.{longest};
+ghost use Rattle.reading.specs.Tree.{branchCount};
 ghost use Rattle.reading.specs.Plan.{nextNode, readTree};
-ghost use Rattle.reading.specs.Working.{restAt, stepOf, meaningIn, Stands, placeAt, Grows, Branches, branchesOf};
+ghost use Rattle.reading.specs.Working.{restAt, stepOf, meaningIn, Stands, placeAt, Grows, Branches};
 use crate::Head;
 use crate::Node;
 use crate::Refusal;
@@ -43,7 +44,7 @@ fn refused(state: State, refusal: Refusal) -> State
 
 // How many branches a node has.
 fn branches_of(node: Node) -> u8
-    ensures { λ r. ⌜ r ≡ branchesOf node ⌝ }
+    ensures { λ r. ⌜ r ≡ branchCount node ⌝ }
 {
     match node {
         Node::Nil => 0,

@@ -5,6 +5,7 @@ pub mod Members
 pub mod Minimum
 pub mod Width
 pub mod Removal
+pub mod Sums
 pub mod Size
 pub mod Joins
 pub mod Taking

@@ -1,56 +1,44 @@
 -- How many members a set has below a width, and a row of sets all told: at most as many as there is room for, no fewer where the sets are
 -- larger, and more where one of them grew.
 -- Assumes nothing.
-use mathlib.Core.Path.{_≡_, refl, sym, ap₂, subst}
-use mathlib.Core.Logic.{_≢_, ⊎-elim}
+use mathlib.Core.Path.{_≡_, refl, sym, ap₂}
+use mathlib.Core.Logic.{_≢_, _⊎_, inl, inr, ⊎-elim}
 use mathlib.Core.List.{List, [], _∷_}
-use Prim.Native.Nat.{ℕ, zero, suc, _+_, _*_, _^_, _≤_, _<_, zero-le}
-use native.Mathlib.Nat.{le-of-suc-le-suc, not-suc-le-zero, eq-or-lt-of-le, mul-suc, suc-inj, suc-ne-zero}
+use Prim.Native.Nat.{ℕ, suc, _+_, _*_, _^_, _≤_, _<_, zero-le}
+use native.Mathlib.Nat.{mul-suc, suc-inj, suc-ne-zero}
 use native.Mathlib.Decide.{ℕ-discrete}
 use native.Mathlib.Omega.{arith}
 use lib.ListN.{length, getD}
 use Rattle.sets.specs.Set.{bit, Has, Subset, size, total}
-use Rattle.sets.proofs.Bits.{bit-lt, has?}
+use Rattle.sets.proofs.Bits.{bit-lt, has?, zero-not-has}
 use Rattle.sets.proofs.Members.{subset-antisymm}
 use Rattle.sets.proofs.Width.{below}
+use Rattle.sets.proofs.Sums.{sum-le, sum-mono, sum-less}
 
 -- ---- a set
 
 pub size-le : (w s : ℕ) → size w s ≤ w
-unfolding size
-size-le zero s = zero-le
-size-le (suc w) s = omega (arith, size-le w s, bit-lt s w)
+size-le w s = let few = sum-le 1 (bit s) w (λ c l. let b = bit-lt s c in omega arith) in omega arith
 
 bit-mono : (a b c : ℕ) → Subset a b → bit a c ≤ bit b c
 bit-mono a b c p = ⊎-elim (λ e. omega arith) (λ h. omega (arith, p c h)) (has? a c)
 
 pub size-mono : (w a b : ℕ) → Subset a b → size w a ≤ size w b
-unfolding size
-size-mono zero a b p = zero-le
-size-mono (suc w) a b p = omega (arith, size-mono w a b p, bit-mono a b w p)
-
--- as many members, so the same members
-size-same : (w a b : ℕ) → Subset a b → size w b ≤ size w a → (c : ℕ) → c < w → Has b c → Has a c
-unfolding size
-size-same zero a b p e c l h = absurd (not-suc-le-zero l)
-size-same (suc w) a b p e c l h = ⊎-elim last (λ m. size-same w a b p (omega (arith, bit-mono a b w p)) c m h) (eq-or-lt-of-le (le-of-suc-le-suc l))
-  where
-    last : c ≡ w → Has a c
-    last q =
-        let h′ : Has b w = subst (λ (k : ℕ). Has b k) q h in
-        subst (λ (k : ℕ). Has a k) (sym q) (omega (arith, size-mono w a b p, bit-lt a w))
+size-mono w a b p = sum-mono (bit a) (bit b) w (λ c l. bit-mono a b c p)
 
 -- a member more
 pub size-strict : (w a b c : ℕ) → Subset a b → c < w → Has b c → (Has a c → ⊥) → size w a < size w b
-size-strict w a b c p l h n =
-    let more : size w b ≤ size w a → ⊥ = λ m. n (size-same w a b p m c l h) in
-    omega arith
+size-strict w a b c p l h n = sum-less (bit a) (bit b) w (λ k m. bit-mono a b k p) c l (⊎-elim (λ e. omega arith) (λ m. absurd (n m)) (has? a c))
 
 -- a set that grew has more members
 pub size-grows : (w a b : ℕ) → b < 2 ^ w → Subset a b → a ≢ b → size w a < size w b
 size-grows w a b l p n =
-    let more : size w b ≤ size w a → ⊥ = λ m. n (subset-antisymm a b p (λ c h. size-same w a b p m c (below w b c l h) h)) in
+    let more : size w b ≤ size w a → ⊥ = λ m. n (subset-antisymm a b p (λ c h. same m c h (has? a c))) in
     omega arith
+  where
+    same : size w b ≤ size w a → (c : ℕ) → Has b c → (bit a c ≡ 0) ⊎ Has a c → Has a c
+    same m c h (inl e) = absurd (omega (arith, size-strict w a b c p (below w b c l h) h (zero-not-has a c e)))
+    same m c h (inr e) = e
 
 -- ---- a row of sets
 

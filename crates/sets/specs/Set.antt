@@ -41,14 +41,17 @@ pub record Without (s c r : ℕ) : Type 0 where
   pub has : (k : ℕ) → Has r k ↔ (Has s k × (k ≢ c))
   pub less : r < s
 
+-- the sum of a function over the numbers below a bound
+unfoldable pub sum : ℕ → (ℕ → ℕ) → ℕ
+sum zero f = zero
+sum (suc n) f = f n + sum n f
+
 -- how many members of s are below the width w
-unfoldable pub size : ℕ → ℕ → ℕ
-size zero s = zero
-size (suc w) s = size w s + bit s w
+abbrev pub size : ℕ → ℕ → ℕ
+size w s = sum w (bit s)
 
 -- how many members below the width w the sets of a row have, all told
 unfoldable pub total : ℕ → List ℕ → ℕ
-unfolding size
 total w [] = zero
 total w (s ∷ row) = size w s + total w row
 

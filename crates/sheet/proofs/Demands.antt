@@ -7,7 +7,7 @@ use native.Mathlib.Decide.{decLe}
 use native.Mathlib.Omega.{arith}
 use lib.ListN.{length, drop, length-append, drop-of-length-le}
 use Rattle.reading.specs.declared.Refusal.{Refusal}
-use Rattle.reading.specs.Plan.{refused, planIn}
+use Rattle.reading.specs.Plan.{refused}
 use Rattle.reading.specs.Promise.{Kept}
 use Rattle.reading.proofs.Promise.{kept}
 use Rattle.solving.specs.declared.Solved.{Solved}

@@ -6,6 +6,7 @@ use mathlib.Core.List.{List, [], _∷_, _++_}
 use native.Mathlib.Omega.{arith}
 use lib.ListN.{length, set, length-append, length-set}
 use lib.Seq.{sets}
+use Rattle.reading.proofs.Stores.{sets-append}
 use Rattle.sheet.specs.Working.{Room, Put}
 
 pub record Left (before : List ℕ) (at : ℕ) (xs : List ℕ) (buffer : List ℕ) (next : ℕ) (rest : List ℕ) : Type 0 where
@@ -15,13 +16,6 @@ pub record Left (before : List ℕ) (at : ℕ) (xs : List ℕ) (buffer : List �
 
 pub left-all : (before : List ℕ) (at : ℕ) (xs : List ℕ) → Left before at xs before at xs
 left-all before at xs = record { same = refl; reach = refl; size = refl }
-
--- a part behind a part
-sets-append : (buffer : List ℕ) (at : ℕ) (xs ys : List ℕ) → sets buffer at (xs ++ ys) ≡ sets (sets buffer at xs) (at + length xs) ys
-sets-append buffer at [] ys = ap (λ n. sets buffer n ys) (omega arith)
-sets-append buffer at (x ∷ xs) ys =
-    sets-append (set buffer at x) (suc at) xs ys
-    ∙ ap (λ n. sets (sets (set buffer at x) (suc at) xs) n ys) (omega arith)
 
 module _ {before : List ℕ} {at : ℕ} {xs buffer : List ℕ} {next : ℕ} where
   pub left-none : Left before at xs buffer next [] → Put before at xs buffer next

@@ -16,7 +16,6 @@ pub mod Computed
 pub mod Entries
 pub mod Examples
 -- The count.
-pub mod Sums
 pub mod Sizes
 pub mod Counting
 -- The promise, over outcomes and over texts.

@@ -8,9 +8,10 @@ use native.Mathlib.Omega.{arith}
 use native.Mathlib.Nat.{mul-assoc}
 use lib.Dec.{T, leb}
 use borrow.Author.Tests.{le-leb, lt-leb}
+use Rattle.sets.specs.Set.{sum}
+use Rattle.sets.proofs.Sums.{sum-le, sum-mono, sum-less}
 use Rattle.reading.specs.declared.Head.{Head}
 use Rattle.solving.specs.Solutions.{Fact, binderSet, inSet, outSet, Level, InRange, outermost}
-use Rattle.solving.proofs.Sums.{total, total-le, total-mono, total-less}
 
 -- a solution, by a test
 abbrev pub Test : Type 0
@@ -57,13 +58,13 @@ abbrev Row₃ : Type 0
 Row₃ = ℕ → ℕ → ℕ → Fact
 
 sum₁ : Test → ℕ → Row₁ → ℕ
-sum₁ s n g = total n (λ o. one (s (g o)))
+sum₁ s n g = sum n (λ o. one (s (g o)))
 
 sum₂ : Test → ℕ → ℕ → Row₂ → ℕ
-sum₂ s C n g = total n (λ c. sum₁ s C (g c))
+sum₂ s C n g = sum n (λ c. sum₁ s C (g c))
 
 sum₃ : Test → ℕ → ℕ → Row₃ → ℕ
-sum₃ s C n g = total n (λ i. sum₂ s C C (g i))
+sum₃ s C n g = sum n (λ i. sum₂ s C C (g i))
 
 abbrev ins : Head → Row₃
 ins h i = inSet (level (h .top) i)
@@ -79,15 +80,15 @@ size h s =
 module _ (s : Test) (C : ℕ) where
   le₁ : (n : ℕ) (g : Row₁) → sum₁ s n g ≤ n
   unfolding sum₁
-  le₁ n g = let h = total-le 1 (λ o. one (s (g o))) n (λ o l. one-le (s (g o))) in omega arith
+  le₁ n g = let h = sum-le 1 (λ o. one (s (g o))) n (λ o l. one-le (s (g o))) in omega arith
 
   le₂ : (n : ℕ) (g : Row₂) → sum₂ s C n g ≤ n * C
   unfolding sum₂
-  le₂ n g = total-le C (λ c. sum₁ s C (g c)) n (λ c l. le₁ C (g c))
+  le₂ n g = sum-le C (λ c. sum₁ s C (g c)) n (λ c l. le₁ C (g c))
 
   le₃ : (n : ℕ) (g : Row₃) → sum₃ s C n g ≤ n * (C * C)
   unfolding sum₃
-  le₃ n g = total-le (C * C) (λ i. sum₂ s C C (g i)) n (λ i l. le₂ C (g i))
+  le₃ n g = sum-le (C * C) (λ i. sum₂ s C C (g i)) n (λ i l. le₂ C (g i))
 
 pub size-le : (h : Head) (s : Test) → size h s ≤ h .binders * h .channels + 2 * (h .top + 2) * h .channels * h .channels
 unfolding size
@@ -102,27 +103,27 @@ size-le h s =
 module _ (s t : Test) (C : ℕ) (h : (f : Fact) → T (s f) → T (t f)) where
   mono₁ : (n : ℕ) (g : Row₁) → sum₁ s n g ≤ sum₁ t n g
   unfolding sum₁
-  mono₁ n g = total-mono _ _ n (λ o l. one-mono (s (g o)) (t (g o)) (h (g o)))
+  mono₁ n g = sum-mono _ _ n (λ o l. one-mono (s (g o)) (t (g o)) (h (g o)))
 
   mono₂ : (n : ℕ) (g : Row₂) → sum₂ s C n g ≤ sum₂ t C n g
   unfolding sum₂
-  mono₂ n g = total-mono _ _ n (λ c l. mono₁ C (g c))
+  mono₂ n g = sum-mono _ _ n (λ c l. mono₁ C (g c))
 
   mono₃ : (n : ℕ) (g : Row₃) → sum₃ s C n g ≤ sum₃ t C n g
   unfolding sum₃
-  mono₃ n g = total-mono _ _ n (λ i l. mono₂ C (g i))
+  mono₃ n g = sum-mono _ _ n (λ i l. mono₂ C (g i))
 
   less₁ : (n : ℕ) (g : Row₁) (o : ℕ) → o < n → s (g o) ≡ false → T (t (g o)) → sum₁ s n g < sum₁ t n g
   unfolding sum₁
-  less₁ n g o l e w = total-less _ _ n (λ j q. one-mono (s (g j)) (t (g j)) (h (g j))) o l (one-less (s (g o)) (t (g o)) e w)
+  less₁ n g o l e w = sum-less _ _ n (λ j q. one-mono (s (g j)) (t (g j)) (h (g j))) o l (one-less (s (g o)) (t (g o)) e w)
 
   less₂ : (n : ℕ) (g : Row₂) (c o : ℕ) → c < n → o < C → s (g c o) ≡ false → T (t (g c o)) → sum₂ s C n g < sum₂ t C n g
   unfolding sum₂
-  less₂ n g c o lc lo e w = total-less _ _ n (λ j q. mono₁ C (g j)) c lc (less₁ C (g c) o lo e w)
+  less₂ n g c o lc lo e w = sum-less _ _ n (λ j q. mono₁ C (g j)) c lc (less₁ C (g c) o lo e w)
 
   less₃ : (n : ℕ) (g : Row₃) (i c o : ℕ) → i < n → c < C → o < C → s (g i c o) ≡ false → T (t (g i c o)) → sum₃ s C n g < sum₃ t C n g
   unfolding sum₃
-  less₃ n g i c o li lc lo e w = total-less _ _ n (λ j q. mono₂ C (g j)) i li (less₂ C (g i) c o lc lo e w)
+  less₃ n g i c o li lc lo e w = sum-less _ _ n (λ j q. mono₂ C (g j)) i li (less₂ C (g i) c o lc lo e w)
 
 -- one membership more, and the size is more
 pub size-less : (h : Head) (s t : Test) → ((f : Fact) → T (s f) → T (t f)) → (f : Fact) → InRange h f → s f ≡ false → T (t f)

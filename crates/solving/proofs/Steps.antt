@@ -19,12 +19,13 @@ use Rattle.reading.specs.declared.Marker.{Marker}
 use Rattle.reading.specs.declared.Marker.the-variants.{Channel, Binder}
 use Rattle.reading.specs.declared.Node.{Node}
 use Rattle.reading.specs.declared.Node.the-variants.{Receive, Bracket}
+use Rattle.reading.specs.Tree.{branchCount}
 use Rattle.reading.specs.Promise.{HeadWithin, MarkerWithin}
 use Rattle.solving.specs.Solutions.{Fact, binderSet, inSet, outSet, SetOf, Level}
 use Rattle.solving.specs.Clauses.{Some, Heard, Meets}
 use Rattle.solving.specs.Rounds.{SendWants, ReceiveWants, BracketWants}
 use Rattle.solving.specs.Table.{insAt, outsAt, inTable, tableSize, MarkerFits, SentOn, Sounding, Adds}
-use Rattle.solving.specs.Walk.{Condition, Own, branchesIn, levelIn, Able, Asked, Stepped}
+use Rattle.solving.specs.Walk.{Condition, Own, levelIn, Able, Asked, Stepped}
 use Rattle.solving.proofs.Tables.{adds-none, adds-same, At, binder-kept, row-kept, row-joined, binder-joined, beside-binder, merged-at}
 
 -- ---- numbers that fit the table
@@ -98,14 +99,14 @@ pub able-at : (m n : Node) (l : ℕ) (old new : List ℕ) → n ≡ m → Able n
 able-at m n l old new e h = subst (λ k. Able k l old new) e h
 
 pub stepped-at : (m n : Node) (l : ℕ) (live r : Bool) (old new then : List ℕ) → n ≡ m → Asked m l live old new r then
-    → Stepped n l live old new (record { branches = branchesIn m; level = levelIn m l; live = r }) then
+    → Stepped n l live old new (record { branches = branchCount m; level = levelIn m l; live = r }) then
 stepped-at m n l live r old new then e h =
-    subst⁻¹ (λ k. Stepped k l live old new (record { branches = branchesIn m; level = levelIn m l; live = r }) then) e
+    subst⁻¹ (λ k. Stepped k l live old new (record { branches = branchCount m; level = levelIn m l; live = r }) then) e
     (record { branches = refl; level-in = refl; asked = h })
 
 pub passes-at : (m n : Node) (l : ℕ) (live : Bool) (old new : List ℕ) → length new ≡ tableSize → n ≡ m → Condition m (inTable old)
     → ((f : Fact) → Own m l (inTable old) f → ⊥)
-    → Stepped n l live old new (record { branches = branchesIn m; level = levelIn m l; live = live }) new
+    → Stepped n l live old new (record { branches = branchCount m; level = levelIn m l; live = live }) new
 passes-at m n l live old new z e c h = stepped-at m n l live live old new new e (passes m l live old new z c h)
 
 no-more : {A B : Type 0} → A ↔ B → A ↔ (B ⊎ ⊥)

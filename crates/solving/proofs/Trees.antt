@@ -10,10 +10,10 @@ use Rattle.reading.specs.declared.Head.{Head}
 use Rattle.reading.specs.declared.Node.{Node}
 use Rattle.reading.specs.declared.Node.the-variants.{Nil, Silent, Send, Receive, Sum, Parallel, Restriction, Match, Replication, Bracket}
 use Rattle.reading.specs.Promise.{NodeWithin}
-use Rattle.reading.specs.Tree.{Tree, nil, silent, send, receive, sum, parallel, restriction, match, replication, bracket, listing, depth}
+use Rattle.reading.specs.Tree.{branchCount, Tree, nil, silent, send, receive, sum, parallel, restriction, match, replication, bracket, listing, depth}
 use Rattle.solving.specs.Solutions.{Fact, Sets, Level}
 use Rattle.solving.specs.Rounds.{Wants}
-use Rattle.solving.specs.Walk.{Condition, Own, branchesIn, levelIn, listings, EachDepth, SomeWants}
+use Rattle.solving.specs.Walk.{Condition, Own, levelIn, listings, EachDepth, SomeWants}
 
 abbrev pub nodeOf : Tree → Node
 nodeOf nil = Nil
@@ -39,7 +39,7 @@ branchesOf (match x y p) = p ∷ []
 branchesOf (replication p) = p ∷ []
 branchesOf (bracket m p) = p ∷ []
 
-pub tree-branches : (p : Tree) → length (branchesOf p) ≡ branchesIn (nodeOf p)
+pub tree-branches : (p : Tree) → length (branchesOf p) ≡ branchCount (nodeOf p)
 tree-branches nil = refl
 tree-branches (silent p) = refl
 tree-branches (send x y p) = refl
@@ -131,7 +131,7 @@ level-inside h (Match x y) l w v = v
 level-inside h Replication l w v = v
 level-inside h (Bracket m) l w v = inl w
 
-pub few-branches : (n : Node) → branchesIn n ≤ 2
+pub few-branches : (n : Node) → branchCount n ≤ 2
 few-branches Nil = omega arith
 few-branches Silent = omega arith
 few-branches (Send x y) = omega arith

@@ -12,12 +12,12 @@ use Rattle.reading.specs.declared.Head.{Head}
 use Rattle.reading.specs.declared.Node.{Node}
 use Rattle.reading.specs.declared.Slot.{Slot}
 use Rattle.reading.specs.Promise.{NodeWithin, EachWithin}
-use Rattle.reading.specs.Tree.{Tree, listing}
+use Rattle.reading.specs.Tree.{branchCount, Tree, listing}
 use Rattle.solving.specs.declared.clauses.Step.{Step}
 use Rattle.solving.specs.Solutions.{Fact, Level}
 use Rattle.solving.specs.Rounds.{Wants}
 use Rattle.solving.specs.Table.{inTable, tableSize, Adds}
-use Rattle.solving.specs.Walk.{Condition, Own, branchesIn, levelIn, Able, Asked, Stepped, nodeAt, Stands, listings, EachDepth, SomeWants, Planted, Ready, Walked}
+use Rattle.solving.specs.Walk.{Condition, Own, levelIn, Able, Asked, Stepped, nodeAt, Stands, listings, EachDepth, SomeWants, Planted, Ready, Walked}
 use Rattle.solving.proofs.Ranges.{within-split}
 use Rattle.solving.proofs.Tables.{adds-none, adds-both, adds-same}
 use Rattle.solving.proofs.Trees.{nodeOf, branchesOf, tree-branches, tree-listing, tree-depth, tree-wants, level-inside, few-branches}
@@ -103,7 +103,7 @@ branches-ready d ns at l live old new s then r st =
         news = st .asked .sized;
       };
       trees = branchesOf p;
-      many = tree-branches p ∙ ap branchesIn (sym n) ∙ sym (st .branches);
+      many = tree-branches p ∙ ap branchCount (sym n) ∙ sym (st .branches);
       planted = w .1 .branches;
     }
 
@@ -217,7 +217,7 @@ walked-node ns at l live old new s mid r then st br = record { next = next; adds
   where
     -- the branches of the tree that stands here
     many : (p : Tree) → nodeAt ns at ≡ nodeOf p → length (branchesOf p) ≡ s .branches
-    many p n = tree-branches p ∙ ap branchesIn (sym n) ∙ sym (st .branches)
+    many p n = tree-branches p ∙ ap branchCount (sym n) ∙ sym (st .branches)
 
     next : (ps : List Tree) → length ps ≡ 1 → Stands ns at (listings ps) → r ≡ at + length (listings ps)
     next [] e h = absurd (omega arith)

@@ -13,7 +13,7 @@ use Rattle.reading.specs.declared.Node.{Node}
 use Rattle.reading.specs.declared.Node.the-variants.{Nil, Silent, Send, Receive, Sum, Parallel, Restriction, Match, Replication, Bracket}
 use Rattle.reading.specs.declared.Slot.{Slot}
 use Rattle.reading.specs.Promise.{HeadWithin, NodeWithin, EachWithin}
-use Rattle.reading.specs.Tree.{Tree, listing, depth}
+use Rattle.reading.specs.Tree.{branchCount, Tree, listing, depth}
 use Rattle.solving.specs.declared.clauses.Step.{Step}
 use Rattle.solving.specs.declared.Solved.{Solved}
 use Rattle.solving.specs.Solutions.{Sets, Level}
@@ -50,20 +50,7 @@ Own (Match x y) l s f = ⊥
 Own Replication l s f = ⊥
 Own (Bracket m) l s f = BracketWants s m l f
 
--- how many branches it has
-abbrev pub branchesIn : Node → ℕ
-branchesIn Nil = 0
-branchesIn Silent = 1
-branchesIn (Send x y) = 1
-branchesIn (Receive x y b) = 1
-branchesIn Sum = 2
-branchesIn Parallel = 2
-branchesIn (Restriction x c) = 1
-branchesIn (Match x y) = 1
-branchesIn Replication = 1
-branchesIn (Bracket m) = 1
-
--- their level
+-- the level of its branches
 abbrev pub levelIn : Node → ℕ → ℕ
 levelIn Nil l = l
 levelIn Silent l = l
@@ -96,7 +83,7 @@ pub record Asked (n : Node) (level : ℕ) (live : Bool) (old new : List ℕ) (r 
   pub sized : length then ≡ tableSize
 
 pub record Stepped (n : Node) (level : ℕ) (live : Bool) (old new : List ℕ) (r : Step) (then : List ℕ) : Type 0 where
-  pub branches : r .branches ≡ branchesIn n
+  pub branches : r .branches ≡ branchCount n
   pub level-in : r .level ≡ levelIn n level
   pub asked : Asked n level live old new (r .live) then
 

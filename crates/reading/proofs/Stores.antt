@@ -1,11 +1,18 @@
--- Unused places: a blank array with a list stored from its start is that list, padded. Assumes nothing.
+-- A list stored in an array from a place on: part behind part; and in a blank array from its start, which is that list, padded.
+-- Assumes nothing.
 use Prim.Native.Nat.{ℕ, zero, suc, _+_, _-_, _≤_}
 use mathlib.Core.Path.{_≡_, ap, _∙_}
-use mathlib.Core.List.{List, _++_}
+use mathlib.Core.List.{List, [], _∷_, _++_}
 use native.Mathlib.Omega.{arith}
-use lib.ListN.{length, drop, replicate, length-replicate}
+use lib.ListN.{length, drop, replicate, length-replicate, set}
 use lib.Seq.{sets, sets-eq}
 use Rattle.reading.specs.Plan.{padded}
+
+-- a part behind a part
+pub sets-append : {A : Type 0} (l : List A) (i : ℕ) (xs ys : List A) → sets l i (xs ++ ys) ≡ sets (sets l i xs) (i + length xs) ys
+sets-append l i [] ys = ap (λ (k : ℕ). sets l k ys) (omega arith)
+sets-append l i (x ∷ xs) ys =
+    sets-append (set l i x) (suc i) xs ys ∙ ap (λ (k : ℕ). sets (sets (set l i x) (suc i) xs) k ys) (omega arith)
 
 drop-replicate : {A : Type 0} (k n : ℕ) (d : A) → drop k (replicate n d) ≡ replicate (n - k) d
 drop-replicate zero n d =
