@@ -7,13 +7,10 @@ use native.Mathlib.Decide.{decLt}
 use native.Mathlib.Omega.{arith}
 use lib.ListN.{length, getD}
 use Rattle.sheet.specs.declared.Written.{Written}
-use Rattle.sheet.specs.Write.{valuesOf, Writes}
-use Rattle.gateway.specs.Call.{Answers}
+use Rattle.sheet.specs.Write.{Writes}
+use Rattle.gateway.specs.Call.{lengthIn, Answers}
 
-abbrev pub second : List ℕ → ℕ
-second values = getD values 1 0
-
-pub answers : (text : List ℕ) (allowance : ℕ) (before after : List ℕ) (returned : Written) (size : ℕ) → size ≡ second (valuesOf returned)
+pub answers : (text : List ℕ) (allowance : ℕ) (before after : List ℕ) (returned : Written) (size : ℕ) → size ≡ lengthIn returned
     → Writes text allowance before returned after → Answers text allowance before size after
 answers text allowance before after returned size e w = record {
   sheet = w .sheet;
@@ -23,6 +20,6 @@ answers text allowance before after returned size e w = record {
   written = λ h. w .otherwise h .1;
 }
   where
-    go : Dec (length before < length (w .sheet)) → second (valuesOf returned) ≡ length (w .sheet)
-    go (yes h) = ap second (w .longer h .0)
-    go (no n) = ap second (w .otherwise (omega arith) .0)
+    go : Dec (length before < length (w .sheet)) → lengthIn returned ≡ length (w .sheet)
+    go (yes h) = ap (λ values. getD values 1 0) (w .longer h .0)
+    go (no n) = ap (λ values. getD values 1 0) (w .otherwise (omega arith) .0)

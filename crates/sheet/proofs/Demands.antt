@@ -20,7 +20,7 @@ use Rattle.sheet.specs.declared.Written.{Written}
 use Rattle.sheet.specs.declared.Written.the-variants.{Whole, TooShort}
 use Rattle.sheet.specs.Sheet.{sheetOf}
 use Rattle.sheet.specs.Write.{valuesOf, Writes}
-use Rattle.sheet.specs.Demand.{RefusedBy, Demand1}
+use Rattle.sheet.specs.Demand.{IsRefusal, Demand1}
 use Rattle.sheet.proofs.Sheets.{sheet-once}
 
 -- ---- outcomes
@@ -83,7 +83,7 @@ module _ {text : List ℕ} {allowance : ℕ} {before : List ℕ} where
 
 -- ---- demand 1
 
-refused-answer : (allowance : ℕ) (f : Refusal) (a : Answer) → Kept (refused f) → Judges (refused f) allowance a → RefusedBy f a
+refused-answer : (allowance : ℕ) (f : Refusal) (a : Answer) → Kept (refused f) → Judges (refused f) allowance a → IsRefusal f a
 refused-answer allowance f a k j = record {
   least = k .0;
   most = k .1;

@@ -13,7 +13,7 @@ use Rattle.judging.specs.Judge.{Judges}
 use Rattle.sheet.specs.Sheet.{sheetOf}
 
 -- a refusal of reading: its number is one of 1 to 13, all sets are empty, and there is no verdict
-pub record RefusedBy (f : Refusal) (a : Answer) : Type 0 where
+pub record IsRefusal (f : Refusal) (a : Answer) : Type 0 where
   pub least : 1 ≤ f .number
   pub most : f .number ≤ 13
   pub is : a ≡ record { solved = refusedBy f; verdict = Unjudged }
@@ -24,6 +24,6 @@ pub record Demand1 (text : List ℕ) (allowance : ℕ) (before after : List ℕ)
   pub answer : Answer
   pub judged : Judges (planIn text) allowance answer
   pub only : (a : Answer) → Judges (planIn text) allowance a → a ≡ answer
-  pub refusals : (f : Refusal) → planIn text ≡ refused f → RefusedBy f answer
+  pub refusals : (f : Refusal) → planIn text ≡ refused f → IsRefusal f answer
   pub untouched : length before < length (sheetOf answer) → after ≡ before
   pub written : length (sheetOf answer) ≤ length before → after ≡ sheetOf answer ++ drop (length (sheetOf answer)) before
