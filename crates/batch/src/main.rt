@@ -22,7 +22,9 @@ fn answer_text(text: &mut [u8], number: u64, allowance: u16) -> bool {
     if io::read_full(STDIN_FILENO, text) < size {
         return bad_record(number);
     }
-    printing::print_sheet(text, allowance);
+    let answer = sheet::whole(text, allowance);
+    let bytes = answer.bytes;
+    io::write_all(STDOUT_FILENO, &bytes[..answer.size]);
     true
 }
 

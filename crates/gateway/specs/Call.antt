@@ -3,14 +3,8 @@
 use Prim.Native.Nat.{ℕ, _<_, _≤_}
 use mathlib.Core.Path.{_≡_}
 use mathlib.Core.List.{List, _++_}
-use lib.ListN.{length, drop, getD}
-use Rattle.sheet.specs.declared.Written.{Written}
+use lib.ListN.{length, drop}
 use Rattle.sheet.specs.Sheet.{SheetFor}
-use Rattle.sheet.specs.Write.{valuesOf}
-
--- the length that writing a sheet returns, behind its number
-abbrev pub lengthIn : Written → ℕ
-lengthIn written = getD (valuesOf written) 1 0
 
 -- by the text, the allowance of rounds and what the buffer held before
 pub record Answers (text : List ℕ) (allowance : ℕ) (before : List ℕ) (size : ℕ) (after : List ℕ) : Type 0 where

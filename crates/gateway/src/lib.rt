@@ -1,17 +1,5 @@
 // The sheet for gateways that are written in another language: one function, exported under a C name, over numbers and lent bytes.
-ghost use mathlib.Core.Path.{_≡_};
-ghost use Rattle.gateway.specs.Call.{lengthIn, Answers};
-use sheet::Written;
-
-// The sheet's length, which writing it returns whether it fits or not.
-fn length_in(written: Written) -> usize
-    ensures { λ r. ⌜ r ≡ lengthIn written ⌝ }
-{
-    match written {
-        Written::Whole(size) => size,
-        Written::TooShort(needed) => needed,
-    }
-}
+ghost use Rattle.gateway.specs.Call.{Answers};
 
 // The length of the sheet of a text within an allowance of rounds. Where the buffer is as long or longer, the sheet stands at its start and
 // nothing past it is changed; where it is shorter, nothing of it is changed.
@@ -20,5 +8,5 @@ pub extern "C" fn hjaltropa_sheet(text: &[u8], allowance: u16, buffer: &mut [u8]
     ensures { λ r. ⌜ Answers (now (text .entry)) allowance (now (buffer .entry)) r (now (buffer .exit)) ⌝ }
 {
     let written = sheet::write(text, allowance, buffer);
-    length_in(written)
+    sheet::length_in(written)
 }

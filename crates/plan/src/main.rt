@@ -1,5 +1,6 @@
 // Prints the answer sheet of the plan on standard input.
 use libc::STDIN_FILENO;
+use libc::STDOUT_FILENO;
 
 // No count of rounds is higher.
 const ALLOWANCE: u16 = 17409;
@@ -25,5 +26,7 @@ fn main() {
     let mut text = [0u8; ROOM];
     let size = io::read_full(STDIN_FILENO, &mut text);
     drop_rest();
-    printing::print_sheet(&text[..size], ALLOWANCE);
+    let answer = sheet::whole(&text[..size], ALLOWANCE);
+    let bytes = answer.bytes;
+    io::write_all(STDOUT_FILENO, &bytes[..answer.size]);
 }

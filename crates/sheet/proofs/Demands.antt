@@ -1,27 +1,30 @@
 -- What the contract of `write` comes to, over texts: it admits one outcome; a buffer of the sheet's length is enough, where one byte less is
--- not; and demand 1. Assumes nothing.
-use Prim.Native.Nat.{ℕ, _+_, _<_, _≤_}
+-- not; 8,128 bytes hold the whole sheet; and demand 1. Assumes nothing.
+use Prim.Native.Nat.{ℕ, _+_, _-_, _≤_}
 use mathlib.Core.Path.{_≡_, sym, ap, subst, _∙_}
 use mathlib.Core.List.{List, [], _∷_, _++_, append-nil}
 use native.Mathlib.Decide.{decLe}
 use native.Mathlib.Omega.{arith}
-use lib.ListN.{length, drop, length-append, drop-of-length-le}
+use lib.ListN.{length, drop, getD, replicate, length-append, length-replicate, drop-of-length-le}
+use lib.Seq.{length-take-le}
 use Rattle.reading.specs.declared.Refusal.{Refusal}
-use Rattle.reading.specs.Plan.{refused}
+use Rattle.reading.specs.Plan.{refused, padded}
 use Rattle.reading.specs.Promise.{Kept}
 use Rattle.reading.proofs.Promise.{kept}
+use Rattle.reading.proofs.Stores.{drop-replicate}
 use Rattle.solving.specs.declared.Solved.{Solved}
 use Rattle.judging.specs.declared.Answer.{Answer}
 use Rattle.judging.specs.declared.Verdict.the-variants.{Unjudged}
 use Rattle.judging.specs.Judge.{Judges}
 use Rattle.judging.proofs.Verdicts.{verdict-once}
 use Rattle.judging.proofs.Demands.{once as answer-once}
+use Rattle.sheet.specs.declared.Sheet.{Sheet}
 use Rattle.sheet.specs.declared.Written.{Written}
 use Rattle.sheet.specs.declared.Written.the-variants.{Whole, TooShort}
 use Rattle.sheet.specs.Sheet.{sheetOf}
-use Rattle.sheet.specs.Write.{valuesOf, Writes}
+use Rattle.sheet.specs.Write.{valuesOf, lengthIn, Writes, longestSheet, IsWhole, Counted}
 use Rattle.sheet.specs.Demand.{IsRefusal, Demand1}
-use Rattle.sheet.proofs.Sheets.{sheet-once}
+use Rattle.sheet.proofs.Sheets.{sheet-once, sheet-most}
 
 -- ---- outcomes
 
@@ -65,21 +68,47 @@ module _ {text : List ℕ} {allowance : ℕ} {before : List ℕ} where
         let p = w .longer (omega arith) in
         (once-values returned (TooShort (length (w .sheet))) (p .0), p .1)
 
-    -- a length that is returned with the sheet lies within the buffer
-    pub within : {size : ℕ} → returned ≡ Whole size → size ≤ length after
-    within {size} e = go (decLe (length (w .sheet)) (length before))
+    -- the length is returned in either outcome
+    pub length-is : lengthIn returned ≡ length (w .sheet)
+    length-is = go (decLe (length (w .sheet)) (length before))
       where
-        go : Dec (length (w .sheet) ≤ length before) → size ≤ length after
-        go (yes h) =
-            let p = w .otherwise h in
-            let q : 0 ∷ size ∷ [] ≡ 0 ∷ length (w .sheet) ∷ [] = sym (ap valuesOf e) ∙ p .0 in
-            let same : size ≡ length (w .sheet) = cc in
-            omega (arith, ap length (p .1), length-append (w .sheet) (drop (length (w .sheet)) before))
-        go (no n) =
-            let h : length before < length (w .sheet) = omega arith in
-            let q : 0 ∷ size ∷ [] ≡ 15 ∷ length (w .sheet) ∷ [] = sym (ap valuesOf e) ∙ w .longer h .0 in
-            let z : _≡_ {A = ℕ} 0 15 = cc in
-            absurd (omega arith)
+        go : Dec (length (w .sheet) ≤ length before) → lengthIn returned ≡ length (w .sheet)
+        go (yes h) = ap (λ values. getD values 1 0) (w .otherwise h .0)
+        go (no n) = ap (λ values. getD values 1 0) (w .longer (omega arith) .0)
+
+-- ---- whole sheets
+
+-- a blank array of 8,128 bytes, written to
+pub whole-is : {text : List ℕ} {allowance : ℕ} {returned : Written} (r : Sheet) → Writes text allowance (replicate longestSheet 0) returned (r .bytes)
+    → r .size ≡ lengthIn returned → IsWhole text allowance r
+unfolding padded
+whole-is {text} {allowance} {returned} r w e =
+    let most = sheet-most (w .of-text) in
+    let blank : List ℕ = replicate longestSheet 0 in
+    let room : length (w .sheet) ≤ length blank = rw length-replicate most in
+    record {
+      sheet = w .sheet;
+      of-text = w .of-text;
+      size = e ∙ length-is w;
+      bytes = w .otherwise room .1 ∙ ap (λ rest. w .sheet ++ rest) (drop-replicate (length (w .sheet)) longestSheet 0);
+    }
+
+module _ {text : List ℕ} {allowance : ℕ} where
+  -- any two whole sheets that the contract admits are equal
+  pub whole-once : (r q : Sheet) → IsWhole text allowance r → IsWhole text allowance q → r ≡ q
+  whole-once r q a b =
+      let same = sheet-once (a .of-text) (b .of-text) in
+      λ i. record {
+        bytes = (a .bytes ∙ (ap (padded longestSheet 0) same ∙ sym (b .bytes))) i;
+        size = (a .size ∙ (ap length same ∙ sym (b .size))) i;
+      }
+
+  pub counted : {r : Sheet} → IsWhole text allowance r → Counted r
+  unfolding padded
+  counted {r} w =
+      let zeros : List ℕ = replicate (longestSheet - length (w .sheet)) 0 in
+      let fits : r .size ≤ length (r .bytes) = omega (arith, w .size, ap length (w .bytes), length-append (w .sheet) zeros) in
+      (fits, sym (length-take-le (r .size) (r .bytes) fits))
 
 -- ---- demand 1
 

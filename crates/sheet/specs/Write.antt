@@ -1,9 +1,11 @@
--- Document 01, refusal 15 and what the sheet operation returns and leaves in the buffer.
+-- Document 01, refusal 15 and what the sheet operation returns and leaves in the buffer; and a whole sheet, in an array of its own.
 -- Assumes nothing.
 use Prim.Native.Nat.{ℕ, _<_, _≤_}
 use mathlib.Core.Path.{_≡_}
 use mathlib.Core.List.{List, [], _∷_, _++_}
-use lib.ListN.{length, drop}
+use lib.ListN.{length, drop, take, getD}
+use Rattle.reading.specs.Plan.{padded}
+use Rattle.sheet.specs.declared.Sheet.{Sheet}
 use Rattle.sheet.specs.declared.Written.{Written}
 use Rattle.sheet.specs.declared.Written.the-variants.{Whole, TooShort}
 use Rattle.sheet.specs.Sheet.{SheetFor}
@@ -13,6 +15,10 @@ abbrev pub valuesOf : Written → List ℕ
 valuesOf (Whole size) = 0 ∷ size ∷ []
 valuesOf (TooShort needed) = 15 ∷ needed ∷ []
 
+-- the length, which stands behind the number in both
+abbrev pub lengthIn : Written → ℕ
+lengthIn written = getD (valuesOf written) 1 0
+
 -- what is returned, and what the buffer holds afterwards, by the text, the allowance of rounds and what the buffer held before
 pub record Writes (text : List ℕ) (allowance : ℕ) (before : List ℕ) (returned : Written) (after : List ℕ) : Type 0 where
   pub sheet : List ℕ
@@ -21,3 +27,18 @@ pub record Writes (text : List ℕ) (allowance : ℕ) (before : List ℕ) (retur
   pub longer : length before < length sheet → (valuesOf returned ≡ 15 ∷ length sheet ∷ []) × (after ≡ before)
   -- otherwise the sheet's length, the sheet from the buffer's start, and every byte past it stays
   pub otherwise : length sheet ≤ length before → (valuesOf returned ≡ 0 ∷ length sheet ∷ []) × (after ≡ sheet ++ drop (length sheet) before)
+
+-- the bytes that suffice for every sheet
+abbrev pub longestSheet : ℕ
+longestSheet = 8128
+
+-- a whole sheet by itself, with zeros behind it
+pub record IsWhole (text : List ℕ) (allowance : ℕ) (r : Sheet) : Type 0 where
+  pub sheet : List ℕ
+  pub of-text : SheetFor text allowance sheet
+  pub size : r .size ≡ length sheet
+  pub bytes : r .bytes ≡ padded longestSheet 0 sheet
+
+-- its size counts bytes of its array. That follows, and is said for those who take the front part of the array
+abbrev pub Counted : Sheet → Type 0
+Counted r = (r .size ≤ length (r .bytes)) × (r .size ≡ length (take (r .size) (r .bytes)))

@@ -1,7 +1,8 @@
 // Writes the answer sheet of a plan's text to a lent buffer. The way of the data: a line's bytes as characters, a row's sets as lines, the
 // whole answer, and here the operation from text. The sheet's length is known first, so that a buffer that is too short is not touched;
 // then it is written once, from its start. Proved: the buffer holds the document's sheet and is otherwise as it was, or all of it is.
-ghost use Rattle.sheet.specs.Write.{Writes};
+ghost use mathlib.Core.Path.{_≡_};
+ghost use Rattle.sheet.specs.Write.{lengthIn, Writes, IsWhole, Counted};
 use crate::answers::length_of;
 use crate::answers::put_answer;
 
@@ -29,4 +30,36 @@ pub fn write(text: &[u8], allowance: u16, buffer: &mut [u8]) -> Written
     }
     put_answer(buffer, answer);
     Written::Whole(size)
+}
+
+// The bytes that suffice for every sheet.
+const LONGEST: usize = 8128;
+
+// A whole sheet: its bytes from the start, with zeros behind them, and how many they are.
+pub struct Sheet {
+    pub bytes: [u8; LONGEST],
+    pub size: usize,
+}
+
+// The sheet's length, which writing it returns whether it fits or not.
+pub fn length_in(written: Written) -> usize
+    ensures { λ r. ⌜ r ≡ lengthIn written ⌝ }
+{
+    match written {
+        Written::Whole(size) => size,
+        Written::TooShort(needed) => needed,
+    }
+}
+
+// The whole sheet of a text, within an allowance of rounds.
+pub fn whole(text: &[u8], allowance: u16) -> Sheet
+    ensures { λ r. ⌜ IsWhole (now (text .entry)) allowance r ⌝ }
+    ensures { λ r. ⌜ Counted r ⌝ }
+{
+    let mut bytes = [0u8; LONGEST];
+    let written = write(text, allowance, &mut bytes);
+    Sheet {
+        bytes,
+        size: length_in(written),
+    }
 }
