@@ -8,7 +8,7 @@ use native.Mathlib.Omega.{arith}
 use native.Mathlib.Decide.{decLt}
 use lib.Dec.{eqb}
 use lib.ListN.{length}
-use borrow.Author.Tests.{eqb-true, eqb-false, eq-eqb, ne-eqb, ltb-true, not-false}
+use borrow.Author.Tests.{eqb-true, eqb-false, ltb-true, not-false}
 use Rattle.reading.specs.declared.frames.Kind.{Kind}
 use Rattle.reading.specs.declared.frames.Kind.the-variants as kind
 use Rattle.reading.specs.declared.frames.Frame.{Frame}
@@ -19,7 +19,7 @@ use Rattle.reading.specs.declared.Head.{Head}
 use Rattle.reading.specs.Scope.{Scope}
 use Rattle.reading.specs.Rules.{nodeBy, nodeIn}
 use Rattle.reading.specs.Working
-use Rattle.reading.specs.Working.{restAt, lineAt, endAt, frameAt, framedOf}
+use Rattle.reading.specs.Working.{restAt, lineAt, endAt, frameAt, framedOf, rowIn}
 use Rattle.reading.proofs.Tests.{or-false}
 use Rattle.reading.proofs.Lines.{rest-none, rest-split, bytes-length, ended-at}
 
@@ -59,10 +59,6 @@ unfolding table
 size-of-kind first =
     each-from (λ f. f .size ≡ sizeOf (f .kind)) table first
     (refl, (refl, (refl, (refl, (refl, (refl, (refl, (refl, (refl, (refl, (refl, (refl, refl))))))))))))
-
-pub size-small : (first : ℕ) → frameOf first .size ≤ 6
-unfolding table
-size-small first = each-from (λ f. f .size ≤ 6) table first (omega arith)
 
 -- a frame of a kind has as many bytes, and its rule is that of the kind
 module _ (bytes : List ℕ) (row : Frame) (r : Working.Row bytes row) (k : Kind) (e : row .kind ≡ k) where
@@ -128,21 +124,19 @@ module _ (s : List ℕ) (section at : ℕ) where
       judged-frame : frameIn section (restAt s at) ≡ frameFor section (frameAt s at)
       judged-frame = line-frame ∙ rw e
 
-      pub frame-elsewhere : (frameOf (byte 0 (frameAt s at)) .section ≡ section → ⊥) → frameIn section (restAt s at) ≡ faulty 3
-      unfolding frameFor
-      frame-elsewhere n = judged-frame ∙ rw (ne-eqb (frameOf (byte 0 (frameAt s at)) .section) section n)
+      -- a row of the table, judged for as many bytes as the line has
+      pub frame-row : framedOf (frameIn section (restAt s at)) ≡ rowIn (frameOf (byte 0 (frameAt s at))) section (length (frameAt s at))
+      unfolding frameFor rowIn
+      frame-row = ap framedOf judged-frame ∙ go (eqb (row .section) section) (eqb (length (frameAt s at)) (row .size))
+        where
+          row : Frame
+          row = frameOf (byte 0 (frameAt s at))
 
-      module _ (q : frameOf (byte 0 (frameAt s at)) .section ≡ section) where
-        pub frame-long : (length (frameAt s at) ≡ frameOf (byte 0 (frameAt s at)) .size → ⊥) → frameIn section (restAt s at) ≡ faulty 4
-        unfolding frameFor
-        frame-long n =
-            judged-frame
-            ∙ rw (eq-eqb _ section q, ne-eqb (length (frameAt s at)) (frameOf (byte 0 (frameAt s at)) .size) n)
-
-        pub frame-fine : length (frameAt s at) ≡ frameOf (byte 0 (frameAt s at)) .size → frameIn section (restAt s at) ≡ fine (frameAt s at)
-        unfolding frameFor
-        frame-fine l =
-            judged-frame ∙ rw (eq-eqb _ section q, eq-eqb (length (frameAt s at)) (frameOf (byte 0 (frameAt s at)) .size) l)
+          go : (e l : Bool) → framedOf (cond e (cond l (fine (frameAt s at)) (faulty 4)) (faulty 3))
+              ≡ cond e (cond l (Framed.Frame row) (Framed.Faulty 4)) (Framed.Faulty 3)
+          go true true = refl
+          go true false = refl
+          go false l = refl
 
 -- a fine frame is that of the line at the position, whose line feed is there
 pub record Framing (s : List ℕ) (section at : ℕ) (bytes : List ℕ) : Type 0 where

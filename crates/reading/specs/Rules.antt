@@ -71,9 +71,12 @@ bracketRule h level = cond (ltb (h .top) level) (faulty 7) (fine (Bracket level)
 
 -- ---- the rules over the bytes of their frames
 
+-- C, B, k and F
+abbrev pub headOf : List ℕ → Head
+headOf frame = record { channels = byte 2 frame; binders = byte 3 frame; top = byte 4 frame; names = byte 5 frame }
+
 abbrev pub headIn : List ℕ → Judged Head
-headIn frame =
-    headRule (byte 1 frame) (record { channels = byte 2 frame; binders = byte 3 frame; top = byte 4 frame; names = byte 5 frame })
+headIn frame = headRule (byte 1 frame) (headOf frame)
 
 abbrev pub nameIn : Head → ℕ → List ℕ → Judged FreeName
 nameIn h least frame = nameRule h least (byte 1 frame) (byte 2 frame)

@@ -1,9 +1,10 @@
 -- What the code holds while it reads, in the terms of the definitions: inner contracts alone cite this.
 -- Assumes nothing.
 use Prim.Native.Nat.{ℕ, zero, suc, _+_, _≤_}
-use mathlib.Core.Bool.{Bool, true, false}
+use mathlib.Core.Bool.{Bool, true, false, cond}
 use mathlib.Core.Path.{_≡_}
 use mathlib.Core.List.{List, [], _∷_, map}
+use lib.Dec.{eqb}
 use lib.ListN.{length, getD, drop, replicate}
 use lib.Seq.{sets}
 use Rattle.reading.specs.declared.FreeName.{FreeName}
@@ -62,6 +63,11 @@ pub record Row (bytes : List ℕ) (row : Frame) : Type 0 where
 abbrev pub framedOf : Judged (List ℕ) → Framed
 framedOf (faulty number) = Framed.Faulty number
 framedOf (fine frame) = Framed.Frame (frameOf (byte 0 frame))
+
+-- a row of the table in a section, for a frame of so many bytes
+unfoldable pub rowIn : Frame → ℕ → ℕ → Framed
+rowIn row section size =
+    cond (eqb (row .section) section) (cond (eqb size (row .size)) (Framed.Frame row) (Framed.Faulty 4)) (Framed.Faulty 3)
 
 abbrev pub openingOf : Judged Head → Opening
 openingOf (faulty number) = Opening.Faulty number

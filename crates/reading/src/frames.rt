@@ -1,10 +1,7 @@
 // The table of frames, and the frame on a line.
 ghost use mathlib.Core.Path.{_≡_};
-ghost use Prim.Native.Nat.{_≤_};
-ghost use lib.ListN.{length};
-ghost use Rattle.reading.specs.Limits.{longest};
 ghost use Rattle.reading.specs.Frames.{frameOf, frameIn};
-ghost use Rattle.reading.specs.Working.{restAt, framedOf};
+ghost use Rattle.reading.specs.Working.{restAt, framedOf, rowIn};
 use crate::text::byte_in;
 use crate::text::is_faulty;
 use crate::text::line_end;
@@ -80,9 +77,21 @@ fn frame_of(first: u8) -> Frame
     }
 }
 
+// What a row of the table is in a section, for a frame of so many bytes: 3 and 4 are judged, in this order.
+fn row_in(row: Frame, section: u8, size: usize) -> Framed
+    ensures { λ r. ⌜ r ≡ rowIn row section size ⌝ }
+{
+    if row.section != section {
+        return Framed::Faulty(3);
+    }
+    if size != row.size {
+        return Framed::Faulty(4);
+    }
+    Framed::Frame(row)
+}
+
 // What the line at `at` is in a section: 12, 2, 3 and 4 are judged, in this order.
 pub(crate) fn frame_in(text: &[u8], section: u8, at: usize) -> Framed
-    requires { ⌜ length (now text) ≤ longest ⌝ }
     ensures { λ r. ⌜ r ≡ framedOf (frameIn section (restAt (now (text .entry)) at)) ⌝ }
 {
     if text.len() <= at {
@@ -92,12 +101,6 @@ pub(crate) fn frame_in(text: &[u8], section: u8, at: usize) -> Framed
     if is_faulty(text, at, end) {
         return Framed::Faulty(2);
     }
-    let frame = frame_of(byte_in(text, at, 0));
-    if frame.section != section {
-        return Framed::Faulty(3);
-    }
-    if end - at != frame.size * 2 {
-        return Framed::Faulty(4);
-    }
-    Framed::Frame(frame)
+    let row = frame_of(byte_in(text, at, 0));
+    row_in(row, section, (end - at) / 2)
 }

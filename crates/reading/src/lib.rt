@@ -2,9 +2,6 @@
 // The way of the data: text (lines and bytes), cursor (where reading stands), frames (the table), scope and rules (what a line says),
 // names and tree (the sections), and the whole text here. Proved: `read` returns the document's reading of the text.
 ghost use mathlib.Core.Path.{_≡_};
-ghost use Prim.Native.Nat.{_≤_};
-ghost use lib.ListN.{length};
-ghost use Rattle.reading.specs.Limits.{longest};
 ghost use Rattle.reading.specs.Plan.{Outcome, wrongLength, firstHead, afterHead, planIn, readingOf};
 ghost use Rattle.reading.specs.Promise.{HeadWithin};
 ghost use Rattle.reading.specs.Working.{restAt, openingOf, Stands, placeAt, FreshNames, FreshState};
@@ -157,7 +154,6 @@ fn fresh_state(cursor: Cursor) -> State
 
 // What the first line says.
 fn first_head(text: &[u8]) -> Opening
-    requires { ⌜ length (now text) ≤ longest ⌝ }
     ensures { λ r. ⌜ r ≡ openingOf (firstHead (restAt (now (text .entry)) 0)) ⌝ }
 {
     match frame_in(text, FIRST_LINE, 0) {

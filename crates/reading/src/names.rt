@@ -2,8 +2,7 @@
 ghost use mathlib.Core.Path.{_≡_};
 ghost use mathlib.Core.Bool.{true, false};
 ghost use Prim.Native.Nat.{_+_, _≤_};
-ghost use lib.ListN.{length};
-ghost use Rattle.reading.specs.Limits.{longest, mostNames};
+ghost use Rattle.reading.specs.Limits.{mostNames};
 ghost use Rattle.reading.specs.Plan.{nextName, readNames};
 ghost use Rattle.reading.specs.Working.{restAt, entryOf, Stands, placeAt, Gathers};
 use crate::FreeName;
@@ -44,7 +43,6 @@ fn refused(state: Names, refusal: Refusal) -> Names
 
 // What the line at `at` says as a free name's, which has to be `least` or more.
 fn next_name(text: &[u8], at: usize, head: Head, least: usize) -> Entry
-    requires { ⌜ length (now text) ≤ longest ⌝ }
     ensures { λ r. ⌜ r ≡ entryOf (nextName head least (restAt (now (text .entry)) at)) ⌝ }
 {
     match frame_in(text, FREE_NAMES, at) {

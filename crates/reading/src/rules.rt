@@ -1,10 +1,11 @@
 // The rule of each frame over its bytes: the head (5, 6), a free name (7, 8), a node (7, 9).
 ghost use mathlib.Core.Path.{_≡_};
 ghost use lib.ListN.{length};
-ghost use Rattle.reading.specs.Rules.{outsideLimits, headIn, nameRule, nameIn, pairRule, receiveRule, restrictionRule, bracketRule, nodeIn};
+ghost use Rattle.reading.specs.Rules.{outsideLimits, headOf, headIn, nameRule, nameIn, pairRule, receiveRule, restrictionRule, bracketRule, nodeIn};
 ghost use Rattle.reading.specs.Working.{frameAt, Row, meaningIn, pairOf, openingOf, entryOf, stepOf};
 use crate::FreeName;
 use crate::Head;
+use crate::Marker;
 use crate::Node;
 use crate::frames::Frame;
 use crate::frames::Kind;
@@ -58,17 +59,25 @@ fn outside_limits(head: Head) -> bool
     MOST_NAMES < head.names as usize
 }
 
+// The numbers of a head, as they stand in the frame at `at`.
+fn head_of(text: &[u8], at: usize) -> Head
+    requires { ⌜ length (frameAt (now text) at) ≡ 6 ⌝ }
+    ensures { λ r. ⌜ r ≡ headOf (frameAt (now (text .entry)) at) ⌝ }
+{
+    Head {
+        channels: byte_in(text, at, 2),
+        binders: byte_in(text, at, 3),
+        top: byte_in(text, at, 4),
+        names: byte_in(text, at, 5),
+    }
+}
+
 // The head in the frame at `at`.
 pub(crate) fn head_in(text: &[u8], at: usize) -> Opening
     requires { ⌜ length (frameAt (now text) at) ≡ 6 ⌝ }
     ensures { λ r. ⌜ r ≡ openingOf (headIn (frameAt (now (text .entry)) at)) ⌝ }
 {
-    let head = Head {
-        channels: byte_in(text, at, 2),
-        binders: byte_in(text, at, 3),
-        top: byte_in(text, at, 4),
-        names: byte_in(text, at, 5),
-    };
+    let head = head_of(text, at);
     if byte_in(text, at, 1) != EDITION {
         return Opening::Faulty(5);
     }
@@ -102,6 +111,17 @@ pub(crate) fn name_in(text: &[u8], at: usize, head: Head, least: usize) -> Entry
     name_rule(head, least, byte_in(text, at, 1), byte_in(text, at, 2))
 }
 
+// The node of two markers: a match or a send.
+fn pair(equal: bool, m: Marker, n: Marker) -> Node
+    ensures { λ r. ⌜ r ≡ pairOf equal m n ⌝ }
+{
+    if equal {
+        Node::Match(m, n)
+    } else {
+        Node::Send(m, n)
+    }
+}
+
 // A match of two names, or a send.
 fn pair_rule(equal: bool, scope: [Given; 256], x: u8, y: u8) -> Step
     ensures { λ r. ⌜ r ≡ stepOf (pairRule (pairOf equal) (meaningIn scope) x y) ⌝ }
@@ -118,11 +138,7 @@ fn pair_rule(equal: bool, scope: [Given; 256], x: u8, y: u8) -> Step
     let Meaning::Is(n) = look_up(scope, y) else {
         return Step::Faulty(9);
     };
-    if equal {
-        Step::Found(Node::Match(m, n))
-    } else {
-        Step::Found(Node::Send(m, n))
-    }
+    Step::Found(pair(equal, m, n))
 }
 
 // A receive: x is looked up in the scope outside.

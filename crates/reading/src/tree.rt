@@ -1,9 +1,6 @@
 // The tree, read node by node: a node reads its branches, first before second.
 ghost use mathlib.Core.Path.{_≡_};
 ghost use mathlib.Core.Bool.{false};
-ghost use Prim.Native.Nat.{_≤_};
-ghost use lib.ListN.{length};
-ghost use Rattle.reading.specs.Limits.{longest};
 ghost use Rattle.reading.specs.Tree.{branchCount};
 ghost use Rattle.reading.specs.Plan.{nextNode, readTree};
 ghost use Rattle.reading.specs.Working.{restAt, stepOf, meaningIn, Stands, placeAt, Grows, Branches};
@@ -69,7 +66,6 @@ fn next_node(
     scope: [Given; 256],
     count: usize,
 ) -> Step
-    requires { ⌜ length (now text) ≤ longest ⌝ }
     ensures { λ r. ⌜ r ≡ stepOf (nextNode depth head (meaningIn scope) count (restAt (now (text .entry)) at)) ⌝ }
 {
     match frame_in(text, TREE_LINES, at) {

@@ -20,7 +20,7 @@ returns : tie.Need-returns
 returns c = c .refused .ensures ∙ ap readingOf (ap refused (c .before .refuse .ensures) ∙ text-wrong _ (sym (c .before .before .before .wrong-length .ensures) ∙ c .before .before .if1 .taken))
 
 first-head-requires : tie.Need-first-head-requires
-first-head-requires c κs = text-short (c .before .before .before .args .text .now) (sym (c .before .wrong-length .ensures) ∙ c .if1 .left)
+first-head-requires c κs = search needs
 
 enum-known-number : tie.Need-enum-known-number
 enum-known-number c = search needs

@@ -51,7 +51,7 @@ read-names-returns t c =
     names-none (start .args .text .now) (start .args .head) _ _ (start .args .state) (start .args .state) (c .if1 .taken) (start .pre .1 .0) (start .pre .1 .2)
 
 read-names-next-name-requires : (t : ℕ) → read-names-lts.Need-next-name-requires (read-names-calls t) (read-names-at t) read-names.Post
-read-names-next-name-requires t c κs = c .before .before .before .pre .1 .0 .short
+read-names-next-name-requires t c κs = search needs
 
 read-names-enum-known-number : (t : ℕ) → read-names-lts.Need-enum-known-number (read-names-calls t) (read-names-at t) read-names.Post
 read-names-enum-known-number t c = search needs

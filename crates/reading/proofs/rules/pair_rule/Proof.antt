@@ -1,8 +1,9 @@
 -- `pair_rule`: each return is the rule's answer under the tests and the meanings that led to it. Assumes nothing.
+use Rattle.reading.specs.declared.rules.Step.{Step}
 use Rattle.reading.specs.Rules.{pairRule}
 use Rattle.reading.proofs.Tests.{tests}
 use borrow.Author.Tests.{le-ltb}
-use mathlib.Core.Path.{sym, _∙_}
+use mathlib.Core.Path.{sym, ap, _∙_}
 use borrow.Author.Needs.{needs}
 use Rattle.reading.proofs.rules.pair_rule.Statement.{statement}
 use Rattle.reading.proofs.rules.pair_rule.Tie as tie
@@ -45,21 +46,18 @@ returns-4 c =
     let y-means = sym (c .before .before .look-up2 .ensures) ∙ c .enum-told2 .given .1 in
     simp (le-ltb _ _ (tested .before .if1 .left), le-ltb _ _ (tested .if2 .left), x-means, y-means)
 
+pair-requires : tie.Need-pair-requires
+pair-requires c κs = search needs
+
 returns-5 : tie.Need-returns-5
 unfolding pairRule
 returns-5 c =
-    let tested = c .before .before .before .before .before .before .before .before .before in
-    let x-means = sym (c .before .before .before .before .before .before .before .before .look-up .ensures) ∙ c .before .before .before .before .before .before .m .given .1 in
-    let y-means = sym (c .before .before .before .before .look-up2 .ensures) ∙ c .before .before .n .given .1 in
-    simp (le-ltb _ _ (tested .before .if1 .left), le-ltb _ _ (tested .if2 .left), x-means, y-means, c .if3 .taken)
-
-returns-6 : tie.Need-returns-6
-unfolding pairRule
-returns-6 c =
-    let tested = c .before .before .before .before .before .before .before .before .before in
-    let x-means = sym (c .before .before .before .before .before .before .before .before .look-up .ensures) ∙ c .before .before .before .before .before .before .m .given .1 in
-    let y-means = sym (c .before .before .before .before .look-up2 .ensures) ∙ c .before .before .n .given .1 in
-    simp (le-ltb _ _ (tested .before .if1 .left), le-ltb _ _ (tested .if2 .left), x-means, y-means, c .if3 .left)
+    let bound = c .before .before in
+    let looked-up = bound .before .before .before .before .before .before in
+    let tested = looked-up .before in
+    let x-means = sym (looked-up .look-up .ensures) ∙ bound .before .before .before .before .m .given .1 in
+    let y-means = sym (bound .before .before .look-up2 .ensures) ∙ bound .n .given .1 in
+    simp (le-ltb _ _ (tested .before .if1 .left), le-ltb _ _ (tested .if2 .left), x-means, y-means) (ap Step.Found (c .pair .ensures))
 
 pub pair-rule-spec : {M : Type 1} → statement M
 pair-rule-spec =
@@ -75,5 +73,5 @@ pair-rule-spec =
     enum-known-n
     enum-told-2
     returns-4
-    returns-5
-    returns-6)
+    pair-requires
+    returns-5)

@@ -126,7 +126,7 @@ room-for t told =
     (told .before .node .given .1)
 
 read-node-next-node-requires : (t : ℕ) → read-node-lts.Need-next-node-requires (read-node-calls t) (read-node-at t) read-node.Post
-read-node-next-node-requires t c κs = c .before .before .pre .1 .short
+read-node-next-node-requires t c κs = search needs
 
 read-node-enum-known-number : (t : ℕ) → read-node-lts.Need-enum-known-number (read-node-calls t) (read-node-at t) read-node.Post
 read-node-enum-known-number t c = search needs
