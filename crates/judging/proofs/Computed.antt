@@ -14,7 +14,7 @@ use lib.ListN.{getD}
 use Rattle.sets.specs.Set.{Has, Members, Least, Decides}
 use Rattle.sets.proofs.Bits.{bit-zero, bit-suc}
 use Rattle.sets.proofs.Decide.{says-yes, says-no}
-use Rattle.sets.proofs.Minimum.{members-none}
+use Rattle.sets.proofs.Minimum.{empty-zero, members-none}
 use Rattle.solving.specs.declared.Solution.{Solution}
 use Rattle.solving.specs.declared.Solved.{Solved}
 use Rattle.solving.specs.Solutions.{membersIn, outermost}
@@ -88,7 +88,7 @@ module _ (k : ℕ) (s : Solution) where
           → (((j : ℕ) → j < suc n → Quiet (Lower k) (s .outs) (s .ins) j) → VerdictOn (Lower k) (membersIn s) (verdictFrom k s left (suc n)))
           → VerdictOn (Lower k) (membersIn s) (cond b (verdictFrom k s left (suc n)) (No (breachAt n (lowest handles handles))))
       go true t later =
-          let quiet = members-none handles _ (going-down-members n) (eqb-true handles 0 t) in
+          let quiet = members-none handles _ (going-down-members n) (empty-zero handles .1 (eqb-true handles 0 t)) in
           later (λ j l. below-more _ n q quiet j (omega arith))
       go false t later =
           let least = lowest-least handles handles (omega arith) (eqb-false handles 0 t) in

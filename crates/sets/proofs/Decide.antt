@@ -2,7 +2,7 @@
 -- Assumes nothing.
 use mathlib.Core.Path.{_≡_, sym, subst}
 use mathlib.Core.Logic.{_↔_, _≢_}
-use mathlib.Core.Bool.{true, false, not}
+use mathlib.Core.Bool.{Bool, true, false, not}
 use Prim.Native.Nat.{ℕ}
 use borrow.Author.Tests.{eqb-true, eqb-false, not-true, not-false}
 use lib.Dec.{T, eqb}
@@ -17,6 +17,9 @@ says-no n = record { yes = λ e. absurd (subst T (sym e) tt); no = λ e. n }
 -- the test m == n, where P is m ≡ n; and the test m != n, where P is its opposite
 pub says-equal : (m n : ℕ) {P : Type 0} → P ↔ (m ≡ n) → Decides (eqb m n) P
 says-equal m n h = record { yes = λ e. h .1 (eqb-true m n e); no = λ e p. eqb-false m n e (h .0 p) }
+
+pub says-not : {b : Bool} {P Q : Type 0} → Decides b P → (Q → P → ⊥) → ((P → ⊥) → Q) → Decides (not b) Q
+says-not {b} d apart else = record { yes = λ e. else (d .no (not-true b e)); no = λ e q. apart q (d .yes (not-false b e)) }
 
 pub says-unequal : (m n : ℕ) {P : Type 0} → P ↔ (m ≢ n) → Decides (not (eqb m n)) P
 says-unequal m n h = record {

@@ -11,7 +11,7 @@ use lib.Bits.{bitAnd}
 use lib.Count.{trailingZeros, under}
 use Rattle.sets.specs.Set.{Has, Members, Empty, Meet, Least}
 use Rattle.sets.proofs.Bits.{zero-or-one, bit-zero, bit-suc}
-use Rattle.sets.proofs.Members.{has-zero, has-nonzero, has-and}
+use Rattle.sets.proofs.Members.{has-nonzero, has-and}
 
 least-odd : (s : ℕ) → s % 2 ≡ 1 → Least s 0
 least-odd s e = record { has = bit-zero s ∙ e; least = λ k l. absurd (not-suc-le-zero l) }
@@ -58,8 +58,8 @@ meet-and a b = (
   λ n. let r = least-of (bitAnd a b) n in let h = has-and a b (r .0) .0 (r .1 .has) in (r .0, h .0, h .1),
 )
 
-pub members-none : (s : ℕ) (P : ℕ → Type 0) → Members s P → s ≡ 0 → (c : ℕ) → P c → ⊥
-members-none s P m e c p = has-zero c (subst (λ k. Has k c) e (m .has c .1 p))
+pub members-none : (s : ℕ) (P : ℕ → Type 0) → Members s P → Empty s → (c : ℕ) → P c → ⊥
+members-none s P m e c p = e c (m .has c .1 p)
 
-pub members-some : (s : ℕ) (P : ℕ → Type 0) → Members s P → s ≢ 0 → (c : ℕ) × P c
-members-some s P m h = let w = least-of s h in (w .0, m .has (w .0) .0 (w .1 .has))
+pub members-some : (s : ℕ) (P : ℕ → Type 0) → Members s P → (Empty s → ⊥) → (c : ℕ) × P c
+members-some s P m h = let w = least-of s (λ e. h (empty-zero s .1 e)) in (w .0, m .has (w .0) .0 (w .1 .has))

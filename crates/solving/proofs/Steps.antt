@@ -4,12 +4,12 @@ use Prim.Native.Nat.{ℕ, _+_, _*_, _<_, _^_}
 use mathlib.Core.Bool.{Bool, true, false}
 use mathlib.Core.Path.{_≡_, refl, subst, subst⁻¹}
 use mathlib.Core.List.{List}
-use mathlib.Core.Logic.{_↔_, _≢_, _⊎_, inl, inr, ⊎-elim, Iff·trans}
+use mathlib.Core.Logic.{_↔_, _⊎_, inl, inr, ⊎-elim, Iff·trans}
 use native.Mathlib.Omega.{arith}
 use lib.Bits.{bitOr}
 use lib.Dec.{T, eqb, lit<}
 use lib.ListN.{length, getD, set}
-use Rattle.sets.specs.Set.{Has, Members, Meet, Decides}
+use Rattle.sets.specs.Set.{Has, Members, Empty, Meet, Decides}
 use Rattle.sets.specs.Rows.{Joins, Over, From, Together}
 use Rattle.sets.proofs.Decide.{says-no, says-equal}
 use Rattle.sets.proofs.Minimum.{members-some}
@@ -115,7 +115,7 @@ no-more e = ((λ a. inl (e .0 a)), ⊎-elim (λ b. e .1 b) absurd)
 -- ---- send
 
 pub send-asks : (old : List ℕ) (x y : Marker) (a b : ℕ) → Members a (SetOf (inTable old) x) → Members b (SetOf (inTable old) y)
-    → a ≢ 0 → b ≢ 0 → Some (inTable old) x × Some (inTable old) y
+    → (Empty a → ⊥) → (Empty b → ⊥) → Some (inTable old) x × Some (inTable old) y
 send-asks old x y a b ma mb na nb = (members-some a (SetOf (inTable old) x) ma na, members-some b (SetOf (inTable old) y) mb nb)
 
 pub send-adds : (old t r : List ℕ) (x y : Marker) (l a b base : ℕ) → l < 8 → a < 2 ^ 32

@@ -11,7 +11,7 @@ use lib.ListN.{length, getD, set}
 use lib.Seq.{getD-set-same, getD-set-other}
 use Rattle.sets.specs.Set.{Has, Members}
 use Rattle.sets.specs.Rows.{Joins, Over, From, Together}
-use Rattle.sets.proofs.Members.{has-zero, has-or}
+use Rattle.sets.proofs.Members.{has-zero}
 use Rattle.sets.proofs.Joins.{joins-none, joins-set}
 use Rattle.solving.specs.Solutions.{Fact, Sets}
 use Rattle.solving.specs.Table.{outsAt, SentOn, Sent, Adds}
@@ -131,12 +131,12 @@ copied-more row t start i fits h k l = go (ℕ-discrete k i)
 pub sent-none : (t : List ℕ) (P : ℕ → Type 0) → Members 0 (Sent t 0 P)
 sent-none t P = record { has = λ o. ((λ h. absurd (has-zero o h)), (λ w. absurd (omega (arith, w .1)))) }
 
-pub sent-more : (t : List ℕ) (P : ℕ → Type 0) (m all here : ℕ) → Members all (Sent t m P) → Members here (Together t (outsAt m) P)
-    → Members (bitOr all here) (Sent t (m + 1) P)
-sent-more t P m all here a h = record {
+pub sent-more : (t : List ℕ) (P : ℕ → Type 0) (m all here r : ℕ) → Members all (Sent t m P) → Members here (Together t (outsAt m) P)
+    → Members r (λ o. Has all o ⊎ Has here o) → Members r (Sent t (m + 1) P)
+sent-more t P m all here r a h both = record {
   has = λ o. (
-    (λ g. ⊎-elim (λ x. let w = a .has o .0 x in (w .0, omega (arith, w .1), w .2)) (λ x. (m, omega arith, h .has o .0 x)) (has-or all here o .0 g)),
-    (λ w. has-or all here o .1 (back o w (ℕ-discrete (w .0) m))),
+    (λ g. ⊎-elim (λ x. let w = a .has o .0 x in (w .0, omega (arith, w .1), w .2)) (λ x. (m, omega arith, h .has o .0 x)) (both .has o .0 g)),
+    (λ w. both .has o .1 (back o w (ℕ-discrete (w .0) m))),
   );
 }
   where

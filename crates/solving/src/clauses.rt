@@ -30,10 +30,10 @@ fn sending(x: Marker, y: Marker, level: u8, live: bool, old: &Table, new: &mut T
     if live {
         let from = set_of(x, old);
         let what = set_of(y, old);
-        if from == 0 {
+        if sets::is_empty(from) {
             return false;
         }
-        if what == 0 {
+        if sets::is_empty(what) {
             return false;
         }
         sets::rows::spread(new, outs_at(level), from, what);

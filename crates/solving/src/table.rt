@@ -59,7 +59,7 @@ pub fn sent(table: &Table, channels: u32) -> u32
     let mut level: u8 = 0;
     while level < 8 {
         let here = sets::rows::together(table, outs_at(level), channels);
-        all = all | here;
+        all = sets::union(all, here);
         level += 1;
     }
     all
@@ -71,7 +71,7 @@ pub fn heard(table: &Table, channels: u32) -> bool
     ensures { λ r. ⌜ Decides r (Sounding (now (table .entry)) (Has channels)) ⌝ }
 {
     let all = sent(table, channels);
-    all != 0
+    !sets::is_empty(all)
 }
 
 // What has been sent in `old`, at any level, on each channel of `channels` is joined to the channel's in set at `level` in `new`.

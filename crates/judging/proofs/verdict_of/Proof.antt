@@ -5,7 +5,7 @@ use borrow.Author.Count.{below-more}
 use borrow.Author.Needs.{needs}
 use native.Mathlib.Nat.{pos-of-ne-zero}
 use native.Mathlib.Omega.{arith}
-use Rattle.sets.proofs.Minimum.{members-none}
+use Rattle.sets.proofs.Minimum.{empty-zero, members-none}
 use Rattle.judging.specs.Verdict.{Lower}
 use Rattle.judging.specs.Compute.{places}
 use Rattle.judging.proofs.Places.{GoesDown, Quiet, quiet-discreet, least-first}
@@ -85,7 +85,8 @@ loop-again c =
     let a = called .before .before .before .before .before .args in
     let at = called .before .before .loop in
     let down = GoesDown (Lower (a .top)) (a .solution .outs) (a .solution .ins) (at .place) in
-    (omega arith, below-more _ _ (at .inv .1) (members-none (called .going-down .result) down (called .going-down .ensures) (c .if1 .left)))
+    let handles = called .going-down in
+    (omega arith, below-more _ _ (at .inv .1) (members-none (handles .result) down (handles .ensures) (empty-zero (handles .result) .1 (c .if1 .left))))
 
 returns-2 : tie.Need-returns-2 Inv-loop μ-loop
 returns-2 c =

@@ -7,6 +7,7 @@ use Rattle.sets.specs.Set.{Has, Members}
 use Rattle.sets.specs.Rows.{Together}
 use Rattle.solving.specs.Table.{outsAt, Sent}
 use Rattle.solving.proofs.Tables.{sent-none, sent-more}
+use borrow.Author.Needs.{needs}
 use Rattle.solving.proofs.table.sent.Statement.{statement}
 use Rattle.solving.proofs.table.sent.Tie as tie
 
@@ -25,6 +26,9 @@ outs-at-requires c κs = omega arith
 together-requires : tie.Need-together-requires Inv-loop μ-loop
 together-requires c κs = omega (arith, c .outs-at .ensures)
 
+union-requires : tie.Need-union-requires Inv-loop μ-loop
+union-requires c κs = search needs
+
 add-level : tie.Need-add-level Inv-loop μ-loop
 add-level c = omega arith
 
@@ -33,12 +37,13 @@ loop-less c = omega arith
 
 loop-again : tie.Need-loop-again Inv-loop μ-loop
 loop-again c =
-    let a = c .before .before .before .before .before .args in
-    let at = c .before .before .before .before .loop in
-    let here = c .together in
+    let made = c .before in
+    let a = made .before .before .before .before .before .args in
+    let at = made .before .before .before .before .loop in
+    let here = made .together in
     let from : Members (here .result) (Together (a .table .now) (outsAt (at .level)) (Has (a .channels))) =
-    subst (λ (k : ℕ). Members (here .result) (Together (a .table .now) k (Has (a .channels)))) (c .before .outs-at .ensures) (here .ensures) in
-    (omega arith, sent-more (a .table .now) (Has (a .channels)) (at .level) (at .all) (here .result) (at .inv .1) from)
+    subst (λ (k : ℕ). Members (here .result) (Together (a .table .now) k (Has (a .channels)))) (made .before .outs-at .ensures) (here .ensures) in
+    (omega arith, sent-more (a .table .now) (Has (a .channels)) (at .level) (at .all) (here .result) (c .union .result) (at .inv .1) from (c .union .ensures))
 
 returns : tie.Need-returns Inv-loop μ-loop
 returns c =
@@ -55,6 +60,7 @@ sent-spec =
     loop-holds
     outs-at-requires
     together-requires
+    union-requires
     add-level
     loop-less
     loop-again
