@@ -1,2 +1,3 @@
 -- Laws of a record's header.
 mod Numbers
+mod Headers

@@ -21,9 +21,13 @@ unfoldable pub numberFrom : ℕ → List ℕ → ℕ
 numberFrom n [] = n
 numberFrom n (c ∷ cs) = let more = numberFrom (n * 16 + valueOf c) cs in cond (ltb (valueOf c) 16) more noNumber
 
--- a text of at most 65,536 bytes, and an allowance of at most 65,535
+-- the longest text of a record
+abbrev pub longestText : ℕ
+longestText = 65536
+
+-- a text not longer than that, and an allowance of at most 65,535
 unfoldable pub headerFor : ℕ → ℕ → Header
-headerFor size allowance = cond (leb size 65536) (cond (leb allowance 65535) (Record size allowance) Bad) Bad
+headerFor size allowance = cond (leb size longestText) (cond (leb allowance 65535) (Record size allowance) Bad) Bad
 
 -- a header has 17 characters, the last a line feed
 unfoldable pub headerOf : List ℕ → Header

@@ -1,6 +1,9 @@
 // Answers many plans: records on standard input, their sheets on standard output one after the other. A record is a line of sixteen
 // hexadecimal digits, eight for the length of the plan's text and eight for the allowance of rounds, and then the text's bytes. A record that
 // is cut short or has a bad header ends the run with a line that names it.
+ghost use Prim.Native.Nat.{_≤_};
+ghost use lib.ListN.{length};
+ghost use Rattle.batch.specs.Header.{longestText};
 use crate::header::Header;
 use crate::header::header_of;
 use libc::STDIN_FILENO;
@@ -29,7 +32,9 @@ fn answer_text(text: &mut [u8], number: u64, allowance: u16) -> bool {
 }
 
 // Answers the next record, the first being number 1, with room for its text; says whether to go on.
-fn answer_next(room: &mut [u8], number: u64) -> bool {
+fn answer_next(room: &mut [u8], number: u64) -> bool
+    requires { ⌜ longestText ≤ length (now room) ⌝ }
+{
     let mut line = [0u8; 17];
     let got = io::read_full(STDIN_FILENO, &mut line);
     if got == 0 {
@@ -37,12 +42,7 @@ fn answer_next(room: &mut [u8], number: u64) -> bool {
     }
     match header_of(&line[..got]) {
         Header::Bad => bad_record(number),
-        Header::Record(size, allowance) => {
-            if room.len() < size {
-                return bad_record(number); // never: there is room for the longest text
-            }
-            answer_text(&mut room[..size], number, allowance)
-        }
+        Header::Record(size, allowance) => answer_text(&mut room[..size], number, allowance),
     }
 }
 

@@ -1,8 +1,9 @@
 -- `answer_next`: there is room for the text of the length that the header says. Assumes nothing.
-use mathlib.Core.Path.{sym}
+use mathlib.Core.Path.{sym, _∙_}
 use native.Mathlib.Omega.{arith}
 use lib.Seq.{length-take-le}
 use borrow.Author.Needs.{needs}
+use Rattle.batch.proofs.Headers.{record-fits}
 use Rattle.batch.proofs.answer_next.Statement.{statement}
 use Rattle.batch.proofs.answer_next.Tie as tie
 
@@ -33,29 +34,26 @@ bad-record-requires c κs = search needs
 enum-known-size : tie.Need-enum-known-size
 enum-known-size c = search needs
 
-bad-record-requires-2 : tie.Need-bad-record-requires-2
-bad-record-requires-2 c κs = search needs
-
-returns-2 : tie.Need-returns-2
-returns-2 c = search needs
-
 slice-relend-prefix-answer-text : tie.Need-slice-relend-prefix-answer-text
-slice-relend-prefix-answer-text c = search needs
+slice-relend-prefix-answer-text c =
+    let read = c .before .before .before in
+    let said = sym (read .header-of .ensures) ∙ c .before .size .given .1 in
+    omega (arith, record-fits _ _ _ said, read .before .before .before .before .before .before .before .pre)
 
 slice-aggregate-answer-text : tie.Need-slice-aggregate-answer-text
-slice-aggregate-answer-text c = sym (length-take-le _ _ (omega arith))
+slice-aggregate-answer-text c = sym (length-take-le _ _ (slice-relend-prefix-answer-text (c .before)))
 
 answer-text-requires : tie.Need-answer-text-requires
 answer-text-requires c κs = search needs
 
-returns-3 : tie.Need-returns-3
-returns-3 c = search needs
+returns-2 : tie.Need-returns-2
+returns-2 c = search needs
 
 same-length : tie.Need-same-length
 same-length c = search needs
 
-returns-4 : tie.Need-returns-4
-returns-4 c = search needs
+returns-3 : tie.Need-returns-3
+returns-3 c = search needs
 
 pub answer-next-spec : {M : Type 1} → statement M
 answer-next-spec =
@@ -70,11 +68,9 @@ answer-next-spec =
     enum-told
     bad-record-requires
     enum-known-size
-    bad-record-requires-2
-    returns-2
     slice-relend-prefix-answer-text
     slice-aggregate-answer-text
     answer-text-requires
-    returns-3
+    returns-2
     same-length
-    returns-4)
+    returns-3)

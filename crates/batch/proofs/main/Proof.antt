@@ -22,7 +22,7 @@ slice-aggregate-answer-next : tie.Need-slice-aggregate-answer-next Inv-loop μ-l
 slice-aggregate-answer-next c = c .before .before .loop .inv .0
 
 answer-next-requires : tie.Need-answer-next-requires Inv-loop μ-loop
-answer-next-requires c κs = tt
+answer-next-requires c κs = omega (arith, c .before .before .loop .inv .0)
 
 add-number : tie.Need-add-number Inv-loop μ-loop
 add-number c = omega arith
