@@ -6,7 +6,7 @@ use mathlib.Core.Path.{_≡_, refl}
 use mathlib.Core.Bool.{Bool, true, _&&_}
 use mathlib.Core.List.{List, [], _∷_, _++_}
 use lib.Dec.{eqb}
-use Rattle.reading.specs.Text.{linesOf, isDigit, valueOf, allDigits, isFaulty, bytesOf}
+use Rattle.reading.specs.Text.{linesOf, isDigit, valueOf, allDigits, oddOrNone, isFaulty, bytesOf}
 use Rattle.reading.specs.Frames.{table, frameFrom, frameFor, frameIn}
 use Rattle.reading.specs.Rules.{outsideLimits, headRule, nameRule, pairRule, receiveRule, restrictionRule, bracketRule}
 use Rattle.reading.specs.Tree.{listing}
@@ -65,7 +65,7 @@ all [] = true
 all (r ∷ rs) = answers (planIn (r .said)) (r .number) (r .line) && all rs
 
 edges : all rows ≡ true
-unfolding linesOf isDigit valueOf allDigits isFaulty bytesOf table frameFrom frameFor frameIn
+unfolding linesOf isDigit valueOf allDigits oddOrNone isFaulty bytesOf table frameFrom frameFor frameIn
     outsideLimits headRule nameRule pairRule receiveRule restrictionRule bracketRule listing
     grow readNames nextNode readTree afterHead readPlan wrongLength planIn rows
 edges = refl

@@ -3,7 +3,7 @@
 use Prim.Native.Nat.{ℕ}
 use mathlib.Core.Path.{_≡_, refl, subst}
 use mathlib.Core.List.{List, [], _∷_, _++_, map}
-use Rattle.reading.specs.Text.{linesOf, isDigit, valueOf, allDigits, isFaulty, bytesOf}
+use Rattle.reading.specs.Text.{linesOf, isDigit, valueOf, allDigits, oddOrNone, isFaulty, bytesOf}
 use Rattle.reading.specs.Frames.{table, frameFrom, frameFor, frameIn}
 use Rattle.reading.specs.Rules.{outsideLimits, headRule, nameRule, pairRule, receiveRule, restrictionRule, bracketRule}
 use Rattle.reading.specs.Tree.{listing}
@@ -83,7 +83,7 @@ abbrev sheets : List Row → List (List ℕ)
 sheets rs = map (λ (r : Row). r .sheet) rs
 
 computed-rows : computed rows ≡ sheets rows
-unfolding linesOf isDigit valueOf allDigits isFaulty bytesOf table frameFrom frameFor frameIn
+unfolding linesOf isDigit valueOf allDigits oddOrNone isFaulty bytesOf table frameFrom frameFor frameIn
     outsideLimits headRule nameRule pairRule receiveRule restrictionRule bracketRule listing
     grow readNames nextNode readTree afterHead readPlan wrongLength planIn
     wanted run solutionOf lowest verdictFrom setLines digit hexLine hexLines sheetFor rows

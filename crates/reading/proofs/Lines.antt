@@ -1,9 +1,9 @@
 -- The line at a position of a text: its characters are those of the text up to the next line feed, and the lines behind it are those
 -- from the position past that. First of a whole text, by its characters; then of the text from a position on.
 -- Assumes nothing.
-use Prim.Native.Nat.{ℕ, zero, suc, _+_, _*_, _/_, _%_, _≤_, _<_}
+use Prim.Native.Nat.{ℕ, zero, suc, _+_, _*_, _/_, _≤_, _<_}
 use mathlib.Core.Path.{_≡_, refl, sym, ap, _∙_}
-use mathlib.Core.Bool.{Bool, true, false, _&&_, _||_}
+use mathlib.Core.Bool.{Bool, true, false, _&&_}
 use mathlib.Core.List.{List, [], _∷_}
 use native.Mathlib.Nat.{le-of-suc-le-suc, not-suc-le-zero}
 use native.Mathlib.Numerals.{add-one}
@@ -13,7 +13,7 @@ use lib.Dec.{ltb, eqb}
 use lib.ListN.{length, getD, drop, length-drop, drop-of-length-le}
 use lib.Seq.{drop-cons, getD-drop, drop-drop}
 use borrow.Author.Tests.{eq-eqb, ne-eqb, lt-ltb, le-ltb}
-use Rattle.reading.specs.Text.{Line, lineFeed, inFront, linesOf, valueOf, isDigit, allDigits, isFaulty, bytesOf}
+use Rattle.reading.specs.Text.{Line, lineFeed, inFront, linesOf, valueOf, isDigit, allDigits, oddOrNone, isFaulty, bytesOf}
 use Rattle.reading.specs.Plan.{rest}
 use Rattle.reading.specs.Working.{firstOf, restAt, lineAt, endAt, frameAt}
 
@@ -186,7 +186,7 @@ module _ (s : List ℕ) (at : ℕ) (h : at < length s) where
     unfolding isFaulty
     faulty-digits e = rw (ended-at s at (omega arith), lt-ltb (endAt s at) (length s) l, e)
 
-    pub faulty-size : allDigits (lineAt s at .characters) ≡ true → isFaulty (lineAt s at) ≡ (eqb (size % 2) 1 || eqb size 0)
+    pub faulty-size : allDigits (lineAt s at .characters) ≡ true → isFaulty (lineAt s at) ≡ oddOrNone size
     unfolding isFaulty
     faulty-size e = rw (ended-at s at (omega arith), lt-ltb (endAt s at) (length s) l, e)
 

@@ -13,7 +13,7 @@ use Rattle.reading.specs.declared.frames.Kind.{Kind}
 use Rattle.reading.specs.declared.frames.Kind.the-variants as kind
 use Rattle.reading.specs.declared.frames.Frame.{Frame}
 use Rattle.reading.specs.declared.frames.Framed.{Framed}
-use Rattle.reading.specs.Text.{Line, allDigits, isFaulty, bytesOf}
+use Rattle.reading.specs.Text.{Line, allDigits, oddOrNone, isFaulty, bytesOf}
 use Rattle.reading.specs.Frames.{firstLine, freeNames, Row, table, unknown, frameFrom, frameOf, Judged, faulty, fine, byte, frameFor, frameIn}
 use Rattle.reading.specs.declared.Head.{Head}
 use Rattle.reading.specs.Scope.{Scope}
@@ -80,10 +80,10 @@ pub record Sound (l : Line) : Type 0 where
   pub some : 0 < length (bytesOf (l .characters))
 
 pub sound : (l : Line) → isFaulty l ≡ false → Sound l
-unfolding isFaulty
+unfolding isFaulty oddOrNone
 sound l e =
     let n = length (l .characters) in
-    let size = eqb (n % 2) 1 || eqb n 0 in
+    let size = oddOrNone n in
     let a = or-false (not (l .ended)) (not (allDigits (l .characters)) || size) e in
     let b = or-false (not (allDigits (l .characters))) size (a .1) in
     let d = or-false (eqb (n % 2) 1) (eqb n 0) (b .1) in

@@ -44,13 +44,13 @@ unfoldable pub allDigits : List ℕ → Bool
 allDigits [] = true
 allDigits (c ∷ cs) = isDigit c && allDigits cs
 
+-- of odd length, or empty
+unfoldable pub oddOrNone : ℕ → Bool
+oddOrNone size = eqb (size % 2) 1 || eqb size 0
+
 -- refusal 2: without line feed, with another character than a digit, of odd length, or empty
 unfoldable pub isFaulty : Line → Bool
-isFaulty l =
-    not (l .ended)
-    || (not (allDigits (l .characters))
-    || (eqb (length (l .characters) % 2) 1
-    || eqb (length (l .characters)) 0))
+isFaulty l = not (l .ended) || (not (allDigits (l .characters)) || oddOrNone (length (l .characters)))
 
 -- two digits a byte
 unfoldable pub bytesOf : List ℕ → List ℕ

@@ -2,7 +2,7 @@
 ghost use mathlib.Core.Path.{_≡_};
 ghost use Prim.Native.Nat.{_<_};
 ghost use lib.ListN.{length};
-ghost use Rattle.reading.specs.Text.{isDigit, valueOf, allDigits, isFaulty};
+ghost use Rattle.reading.specs.Text.{isDigit, valueOf, allDigits, oddOrNone, isFaulty};
 ghost use Rattle.reading.specs.Frames.{byte};
 ghost use Rattle.reading.specs.Working.{lineAt, endAt, frameAt};
 
@@ -72,6 +72,16 @@ fn all_digits(text: &[u8], at: usize, end: usize) -> bool
     true
 }
 
+// Whether a line of so many characters is no line of bytes: an odd number, or none.
+fn odd_or_none(size: usize) -> bool
+    ensures { λ r. ⌜ r ≡ oddOrNone size ⌝ }
+{
+    if size % 2 == 1 {
+        return true;
+    }
+    size == 0
+}
+
 // Whether the line at `at`, which ends at `end`, is faulty.
 pub(crate) fn is_faulty(text: &[u8], at: usize, end: usize) -> bool
     requires { ⌜ (at < length (now text)) × (end ≡ endAt (now text) at) ⌝ }
@@ -83,11 +93,7 @@ pub(crate) fn is_faulty(text: &[u8], at: usize, end: usize) -> bool
     if !all_digits(text, at, end) {
         return true;
     }
-    let size = end - at;
-    if size % 2 == 1 {
-        return true;
-    }
-    size == 0
+    odd_or_none(end - at)
 }
 
 // Byte number i of the line at `at`.

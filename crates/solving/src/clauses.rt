@@ -16,10 +16,10 @@ use reading::Node;
 const EVERY: u32 = 4294967295;
 
 // How many branches a node has, at which level they stand, and whether they are asked to hold.
-pub struct Step {
-    pub branches: u8,
-    pub level: u8,
-    pub live: bool,
+pub(crate) struct Step {
+    pub(crate) branches: u8,
+    pub(crate) level: u8,
+    pub(crate) live: bool,
 }
 
 // Send y on x: asks where S(x) and S(y) are both non-empty, and adds S(y) to out(level, c) for each c in S(x).
@@ -117,7 +117,7 @@ fn bracketing(inner: u8, level: u8, live: bool, old: &Table, new: &mut Table) ->
 }
 
 // The clause of a node: one for each kind.
-pub fn clause(node: Node, level: u8, live: bool, old: &Table, new: &mut Table) -> Step
+pub(crate) fn clause(node: Node, level: u8, live: bool, old: &Table, new: &mut Table) -> Step
     requires { ⌜ Able node level (now old) (now new) ⌝ }
     ensures { λ r. ⌜ Stepped node level live (now (old .entry)) (now (new .entry)) r (now (new .exit)) ⌝ }
 {

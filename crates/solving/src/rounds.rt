@@ -28,7 +28,7 @@ fn round(nodes: [Slot; 256], table: Table) -> Table
 }
 
 // The answer under a refusal: nothing but its number and line.
-pub fn refused(refusal: Refusal) -> Solved
+pub(crate) fn refused(refusal: Refusal) -> Solved
     ensures { λ r. ⌜ r ≡ refusedBy refusal ⌝ }
 {
     Solved {
@@ -50,7 +50,7 @@ pub fn refused(refusal: Refusal) -> Solved
 
 // Solves the plan with this head and these nodes: the count and the least acceptable solution, or refusal 14 where the
 // allowance is too small.
-pub fn settle(head: Head, nodes: [Slot; 256], allowance: u16) -> Solved
+pub(crate) fn settle(head: Head, nodes: [Slot; 256], allowance: u16) -> Solved
     requires { ⌜ Spelled head nodes ⌝ }
     ensures { λ r. ⌜ Settles head nodes allowance r ⌝ }
 {

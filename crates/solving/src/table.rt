@@ -11,10 +11,10 @@ use crate::Solution;
 use reading::Marker;
 
 // A table of sets.
-pub type Table = [u32; 544];
+pub(crate) type Table = [u32; 544];
 
 // Where the in sets of a level begin.
-pub fn ins_at(level: u8) -> usize
+pub(crate) fn ins_at(level: u8) -> usize
     requires { ⌜ level < 8 ⌝ }
     ensures { λ r. ⌜ r ≡ insAt level ⌝ }
 {
@@ -22,7 +22,7 @@ pub fn ins_at(level: u8) -> usize
 }
 
 // Where the out sets of a level begin.
-pub fn outs_at(level: u8) -> usize
+pub(crate) fn outs_at(level: u8) -> usize
     requires { ⌜ level < 8 ⌝ }
     ensures { λ r. ⌜ r ≡ outsAt level ⌝ }
 {
@@ -30,14 +30,14 @@ pub fn outs_at(level: u8) -> usize
 }
 
 // The table whose sets are all empty.
-pub fn empty() -> Table
+pub(crate) fn empty() -> Table
     ensures { λ r. ⌜ r ≡ replicate 544 0 ⌝ }
 {
     [0; 544]
 }
 
 // S(x), the set of a marker.
-pub fn set_of(x: Marker, table: &Table) -> u32
+pub(crate) fn set_of(x: Marker, table: &Table) -> u32
     requires { ⌜ MarkerFits x × (length (now table) ≡ 544) ⌝ }
     ensures { λ r. ⌜ Members r (SetOf (inTable (now (table .entry))) x) ⌝ }
 {
@@ -51,7 +51,7 @@ pub fn set_of(x: Marker, table: &Table) -> u32
 }
 
 // What has been sent on any channel of `channels`, at any level: the union of their out sets.
-pub fn sent(table: &Table, channels: u32) -> u32
+pub(crate) fn sent(table: &Table, channels: u32) -> u32
     requires { ⌜ length (now table) ≡ 544 ⌝ }
     ensures { λ r. ⌜ Members r (Sent (now (table .entry)) 8 (Has channels)) ⌝ }
 {
@@ -66,7 +66,7 @@ pub fn sent(table: &Table, channels: u32) -> u32
 }
 
 // Whether anybody has sent on any channel of `channels`.
-pub fn heard(table: &Table, channels: u32) -> bool
+pub(crate) fn heard(table: &Table, channels: u32) -> bool
     requires { ⌜ length (now table) ≡ 544 ⌝ }
     ensures { λ r. ⌜ Decides r (Sounding (now (table .entry)) (Has channels)) ⌝ }
 {
@@ -75,7 +75,7 @@ pub fn heard(table: &Table, channels: u32) -> bool
 }
 
 // What has been sent in `old`, at any level, on each channel of `channels` is joined to the channel's in set at `level` in `new`.
-pub fn gather(new: &mut Table, level: u8, channels: u32, old: &Table)
+pub(crate) fn gather(new: &mut Table, level: u8, channels: u32, old: &Table)
     requires { ⌜ (level < 8) × (length (now new) ≡ 544) × (length (now old) ≡ 544) ⌝ }
     ensures { λ r. ⌜ Joins (now (new .entry)) (now (new .exit)) (Over (insAt level) (Has channels) (SentOn (now (old .entry)) 8)) ⌝ }
     ensures { λ r. ⌜ length (now (new .exit)) ≡ 544 ⌝ }
@@ -100,7 +100,7 @@ fn copy_from(into: &mut [u32], table: &Table, start: usize)
 }
 
 // The table's sets as a solution.
-pub fn solution_of(table: &Table) -> Solution
+pub(crate) fn solution_of(table: &Table) -> Solution
     requires { ⌜ length (now table) ≡ 544 ⌝ }
     ensures { λ r. ⌜ Unpacked (now (table .entry)) r ⌝ }
 {

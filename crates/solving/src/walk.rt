@@ -5,7 +5,7 @@ use crate::table::Table;
 use reading::Slot;
 
 // Walks the tree whose root stands at `at`, adds what it wants, and says where it ends.
-pub fn walk_node(
+pub(crate) fn walk_node(
     depth: usize,
     nodes: [Slot; 256],
     at: usize,
