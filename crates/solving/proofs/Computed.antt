@@ -1,7 +1,7 @@
 -- The computed rounds are the rounds of the definition, and the computed answer is one that the contract admits: each round adds
 -- just what is wanted, so a list of facts holds what `after` says; entered into arrays it holds the same. Assumes nothing.
 use Prim.Native.Nat.{ℕ, zero, suc, _+_, _<_, _≤_}
-use mathlib.Core.Bool.{Bool, true, false}
+use mathlib.Core.Bool.{Bool, true, false, _&&_}
 use mathlib.Core.Path.{_≡_, refl, subst, subst⁻¹}
 use mathlib.Core.List.{List, [], _∷_}
 use mathlib.Core.Logic.{_↔_, _⊎_, inl, inr, ⊎-elim}
@@ -11,29 +11,29 @@ use lib.Dec.{T, eqb, eqb→eq, eqb-refl}
 use Rattle.reading.specs.Tree.{Tree}
 use Rattle.solving.specs.Solutions.{Fact, binderSet, inSet, outSet, outermost}
 use Rattle.solving.specs.Rounds.{Wanted, Settled, after, Count}
-use Rattle.solving.specs.Compute.{wanted, both, sameFact, hasFact, addAll, allIn, Run, unfinished, settled, run}
+use Rattle.solving.specs.Compute.{wanted, sameFact, hasFact, addAll, allIn, Run, unfinished, settled, run}
 use Rattle.solving.proofs.Acceptance.{wants-grows}
 use Rattle.solving.proofs.Lists.{Mem}
 use Rattle.solving.proofs.WantedLists.{listed, wanted-is}
 
 -- ---- tests on facts
 
-pub both-is : (a b : Bool) → T (both a b) ↔ (T a × T b)
+pub both-is : (a b : Bool) → T (a && b) ↔ (T a × T b)
 both-is true b = (λ t. (tt, t), λ w. w .1)
 both-is false b = (absurd, λ w. w .0)
 
 -- two numbers, and three
-both-same : (a b c d : ℕ) → T (both (eqb a b) (eqb c d)) → (a ≡ b) × (c ≡ d)
+both-same : (a b c d : ℕ) → T (eqb a b && eqb c d) → (a ≡ b) × (c ≡ d)
 both-same a b c d t = let w = both-is (eqb a b) (eqb c d) .0 t in (eqb→eq a b (w .0), eqb→eq c d (w .1))
 
-all-same : (a b c d e f : ℕ) → T (both (eqb a b) (both (eqb c d) (eqb e f))) → (a ≡ b) × (c ≡ d) × (e ≡ f)
+all-same : (a b c d e f : ℕ) → T (eqb a b && (eqb c d && eqb e f)) → (a ≡ b) × (c ≡ d) × (e ≡ f)
 all-same a b c d e f t =
-    let w = both-is (eqb a b) (both (eqb c d) (eqb e f)) .0 t in
+    let w = both-is (eqb a b) (eqb c d && eqb e f) .0 t in
     let v = both-same c d e f (w .1) in
     (eqb→eq a b (w .0), v .0, v .1)
 
-self : (a b c : ℕ) → T (both (eqb a a) (both (eqb b b) (eqb c c)))
-self a b c = both-is (eqb a a) (both (eqb b b) (eqb c c)) .1 (eqb-refl a, both-is (eqb b b) (eqb c c) .1 (eqb-refl b, eqb-refl c))
+self : (a b c : ℕ) → T (eqb a a && (eqb b b && eqb c c))
+self a b c = both-is (eqb a a) (eqb b b && eqb c c) .1 (eqb-refl a, both-is (eqb b b) (eqb c c) .1 (eqb-refl b, eqb-refl c))
 
 same-self : (f : Fact) → T (sameFact f f)
 same-self (binderSet b o) = both-is (eqb b b) (eqb o o) .1 (eqb-refl b, eqb-refl o)

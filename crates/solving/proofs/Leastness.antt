@@ -8,7 +8,7 @@ use native.Mathlib.Decide.{decLt}
 use Rattle.reading.specs.Tree.{Tree}
 use Rattle.solving.specs.Solutions.{Fact, Sets, Contained, outermost}
 use Rattle.solving.specs.Clauses.{Acceptable}
-use Rattle.solving.specs.Rounds.{after, Settled, Count}
+use Rattle.solving.specs.Rounds.{after, Settled, Count, Exceeds}
 use Rattle.solving.specs.Least.{Least}
 use Rattle.solving.proofs.Acceptance.{acceptable-iff, wants-grows}
 
@@ -48,3 +48,11 @@ count-unique p m n a b = go (decLt (a .earlier) (b .earlier)) (decLt (b .earlier
     go (yes h) e = absurd (b .first (a .earlier) h (a .settled))
     go (no h) (yes k) = absurd (a .first (b .earlier) k (b .settled))
     go (no h) (no k) = let x = a .is in let y = b .is in omega arith
+
+-- the count is above a number of rounds of which none was the last
+pub busy-exceeds : (p : Tree) (allowance : ℕ) → ((j : ℕ) → j < allowance → Settled p (after p j) → ⊥) → Exceeds p allowance
+busy-exceeds p allowance busy n c = go (decLt (c .earlier) allowance)
+  where
+    go : Dec (c .earlier < allowance) → allowance < n
+    go (yes q) = absurd (busy (c .earlier) q (c .settled))
+    go (no q) = let e = c .is in omega arith

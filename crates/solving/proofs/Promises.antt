@@ -5,7 +5,6 @@ use mathlib.Core.Path.{_≡_, refl, sym, ap, subst, subst⁻¹, _∙_}
 use mathlib.Core.List.{List, []}
 use mathlib.Core.Logic.{_↔_, inl, inr, Iff·trans, Iff·symm}
 use native.Mathlib.Omega.{arith}
-use native.Mathlib.Decide.{decLt}
 use Rattle.reading.specs.declared.Head.{Head}
 use Rattle.reading.specs.Promise.{HeadWithin, PlanWithin, Kept}
 use Rattle.reading.specs.Plan.{Outcome, refused, read, Plan}
@@ -13,13 +12,13 @@ use Rattle.reading.specs.Tree.{Tree}
 use Rattle.solving.specs.declared.Solution.{Solution}
 use Rattle.solving.specs.declared.Solved.{Solved}
 use Rattle.solving.specs.Solutions.{Fact, binderSet, inSet, outSet, membersIn, Sized, InRange}
-use Rattle.solving.specs.Rounds.{after, Count, Exceeds}
+use Rattle.solving.specs.Rounds.{after, Count}
 use Rattle.solving.specs.Least.{Least, LeastArrays}
 use Rattle.solving.specs.Solve.{Answered, Solves, refusedBy, overAllowance}
 use Rattle.solving.specs.Demand.{LeastAnswer, PlanDemand, Demand2}
 use Rattle.solving.specs.Compute.{Run, unfinished, settled, run, solutionOf, answerOf, solvedOf}
 use Rattle.solving.proofs.Lists.{Mem}
-use Rattle.solving.proofs.Leastness.{count-least, count-unique, least-same}
+use Rattle.solving.proofs.Leastness.{count-least, count-unique, least-same, busy-exceeds}
 use Rattle.solving.proofs.Ranges.{after-within}
 use Rattle.solving.proofs.Computed.{RunIs, whole-run}
 use Rattle.solving.proofs.Counting.{count-exists, count-bound, count-ceiling}
@@ -84,20 +83,12 @@ module _ (plan : Plan) (g : PlanWithin plan) (n : ℕ) (s : List Fact) (c : Coun
     within = λ f m. in-range f (members f .1 m);
   }
 
--- a count above the rounds of which none was the last
-exceeds-of : (p : Tree) (allowance : ℕ) → RunIs p allowance unfinished → Exceeds p allowance
-exceeds-of p allowance busy n c = go (decLt (c .earlier) allowance)
-  where
-    go : Dec (c .earlier < allowance) → allowance < n
-    go (yes q) = absurd (busy (c .earlier) q (c .settled))
-    go (no q) = let e = c .is in omega arith
-
 pub outcome-computed : (o : Outcome Plan) (allowance : ℕ) → Kept o → Solves o allowance (solvedOf o allowance)
 outcome-computed (refused f) allowance g = refl
 outcome-computed (read plan) allowance g = go (run (plan .tree) allowance 0 []) (whole-run (plan .tree) allowance)
   where
     go : (r : Run) → RunIs (plan .tree) allowance r → Solves (read plan) allowance (answerOf (plan .head) r)
-    go unfinished w = inr (record { exceeds = exceeds-of (plan .tree) allowance w; is = refl })
+    go unfinished w = inr (record { exceeds = busy-exceeds (plan .tree) allowance w; is = refl })
     go (settled n s) w = inl (computed-answer plan g n s (w .0) (w .2) allowance (w .1))
 
 solves-computed : (o : Outcome Plan) (allowance : ℕ) (r : Solved) → Kept o → Solves o allowance r → r ≡ solvedOf o allowance
@@ -134,7 +125,7 @@ plan-demand plan allowance r g e =
     go : (n : ℕ) → Count (plan .tree) n → (q : Run) → RunIs (plan .tree) allowance q
         → (n ≤ allowance → LeastAnswer plan n (answerOf (plan .head) q))
         × (allowance < n → answerOf (plan .head) q ≡ refusedBy overAllowance)
-    go n c unfinished w = ((λ l. absurd (let z = exceeds-of (plan .tree) allowance w n c in omega arith)), λ l. refl)
+    go n c unfinished w = ((λ l. absurd (let z = busy-exceeds (plan .tree) allowance w n c in omega arith)), λ l. refl)
     go n c (settled m s) w =
         let u = count-unique (plan .tree) m n (w .0) c in
         let v = w .1 in (

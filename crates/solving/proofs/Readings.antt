@@ -5,7 +5,7 @@ use mathlib.Core.Path.{_≡_, refl, ap, subst, subst⁻¹, _∙_}
 use mathlib.Core.List.{List, [], _∷_, _++_, map}
 use mathlib.Core.Logic.{_≢_}
 use native.Mathlib.Omega.{arith}
-use lib.ListN.{length, getD, length-append}
+use lib.ListN.{length, getD, length-append, length-map}
 use Rattle.reading.specs.declared.Node.{Node}
 use Rattle.reading.specs.declared.Node.the-variants.{Nil}
 use Rattle.reading.specs.declared.Reading.{Reading}
@@ -33,10 +33,6 @@ stands-each ns i (x ∷ xs) h =
           (subst (λ n. n < length ns) there (next .0), subst (λ n. nodeAt ns n ≡ getD xs k Nil) there (next .1))),
     )
 
-slots-length : (xs : List Node) → length (map slot xs) ≡ length xs
-slots-length [] = refl
-slots-length (x ∷ xs) = ap suc (slots-length xs)
-
 slots-at : (xs : List Node) (rest : List Slot) (k : ℕ) → k < length xs → nodeAt (map slot xs ++ rest) k ≡ getD xs k Nil
 slots-at [] rest k l = absurd (omega arith)
 slots-at (x ∷ xs) rest zero l = refl
@@ -46,7 +42,7 @@ listed : (xs : List Node) (rest : List Slot) → Stands (map slot xs ++ rest) 0 
 listed xs rest = stands-each (map slot xs ++ rest) 0 xs (λ k l.
     let from-start : k ≡ 0 + k = omega arith in
     let long = length-append (map slot xs) rest in
-    let same = slots-length xs in
+    let same = length-map xs slot in
     (omega arith, subst (λ n. nodeAt (map slot xs ++ rest) n ≡ getD xs k Nil) from-start (slots-at xs rest k l)))
 
 tree-stands : (p : Plan) → Stands (readingOf (read p) .nodes) 0 (listing (p .tree))

@@ -17,7 +17,7 @@ use Rattle.reading.specs.Plan.{noRefusal}
 use Rattle.reading.specs.Tree.{Tree, listing}
 use Rattle.solving.specs.declared.Solved.{Solved}
 use Rattle.solving.specs.Solutions.{Fact, binderSet, inSet, outSet, membersIn, outermost}
-use Rattle.solving.specs.Rounds.{Wanted, Settled, after, Count, Exceeds}
+use Rattle.solving.specs.Rounds.{Wanted, Settled, after, Count}
 use Rattle.solving.specs.Least.{Least}
 use Rattle.solving.specs.Solve.{Answered}
 use Rattle.solving.specs.Table.{tableSize, insAt, outsAt, inTable, Adds, Copied, Unpacked}
@@ -170,13 +170,6 @@ module _ (p : Tree) (n : ℕ) (t u : List ℕ) (r : Reached p n t) (a : Adds t u
           go (no q) = r .busy j (omega arith) s
 
 -- ---- the answers
-
-pub exceeds-if : (p : Tree) (allowance : ℕ) (t : List ℕ) → Reached p allowance t → Exceeds p allowance
-exceeds-if p allowance t r n c = go (decLt (c .earlier) allowance)
-  where
-    go : Dec (c .earlier < allowance) → allowance < n
-    go (yes q) = absurd (r .busy (c .earlier) q (c .settled))
-    go (no q) = let e = c .is in omega arith
 
 pub answered-by : (h : Head) (p : Tree) (allowance n : ℕ) (t : List ℕ) (r : Solved) → EachWithin h (listing p) → Reached p n t
     → Settled p (after p n) → n < allowance → r .refusal ≡ noRefusal → r .head ≡ h → r .count ≡ n + 1 → Unpacked t (r .solution)

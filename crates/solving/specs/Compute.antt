@@ -2,7 +2,7 @@
 -- `solvedOf` what Solve.antt asks for, is proved in proofs/Computed.antt.
 -- Assumes nothing.
 use Prim.Native.Nat.{ℕ, zero, suc, _+_, _*_, _^_}
-use mathlib.Core.Bool.{Bool, true, false}
+use mathlib.Core.Bool.{Bool, true, false, _&&_}
 use mathlib.Core.List.{List, [], _∷_, _++_}
 use lib.Bits.{bitOr}
 use lib.Dec.{eqb}
@@ -99,20 +99,16 @@ wanted (bracket m p) l s = wanted p m s ++ each s (raised m l)
 
 -- ---- rounds
 
-abbrev pub both : Bool → Bool → Bool
-both true b = b
-both false b = false
-
 abbrev pub sameFact : Fact → Fact → Bool
-sameFact (binderSet b o) (binderSet d u) = both (eqb b d) (eqb o u)
+sameFact (binderSet b o) (binderSet d u) = eqb b d && eqb o u
 sameFact (binderSet b o) (inSet m d u) = false
 sameFact (binderSet b o) (outSet m d u) = false
 sameFact (inSet l c o) (binderSet d u) = false
-sameFact (inSet l c o) (inSet m d u) = both (eqb l m) (both (eqb c d) (eqb o u))
+sameFact (inSet l c o) (inSet m d u) = eqb l m && (eqb c d && eqb o u)
 sameFact (inSet l c o) (outSet m d u) = false
 sameFact (outSet l c o) (binderSet d u) = false
 sameFact (outSet l c o) (inSet m d u) = false
-sameFact (outSet l c o) (outSet m d u) = both (eqb l m) (both (eqb c d) (eqb o u))
+sameFact (outSet l c o) (outSet m d u) = eqb l m && (eqb c d && eqb o u)
 
 abbrev pub hasFact : Fact → List Fact → Bool
 hasFact f [] = false

@@ -9,7 +9,8 @@ use native.Mathlib.Omega.{arith}
 use lib.ListN.{length, length-replicate}
 use Rattle.reading.specs.Tree.{Tree, listing}
 use Rattle.solving.specs.Walk.{Stands}
-use Rattle.solving.proofs.Settling.{Reached, reached-none, reached-more, settled-if, exceeds-if, answered-by, spelled-stands, spelled-within}
+use Rattle.solving.proofs.Leastness.{busy-exceeds}
+use Rattle.solving.proofs.Settling.{Reached, reached-none, reached-more, settled-if, answered-by, spelled-stands, spelled-within}
 use Rattle.solving.proofs.rounds.settle.Statement.{statement}
 use Rattle.solving.proofs.rounds.settle.Tie as tie
 
@@ -82,7 +83,7 @@ returns-2 c =
     λ p s.
     let r : Reached p (a .allowance) (at .table) =
     subst (λ n. Reached p n (at .table)) (let e : at .count ≡ a .allowance = omega arith in e) (at .inv .2 p (spelled-stands s)) in
-    inr (record { exceeds = exceeds-if p (a .allowance) (at .table) r; is = c .refused .ensures })
+    inr (record { exceeds = busy-exceeds p (a .allowance) (r .busy); is = c .refused .ensures })
 
 pub settle-spec : {M : Type 1} → statement M
 settle-spec =
