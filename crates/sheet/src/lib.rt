@@ -46,7 +46,7 @@ pub fn length_in(written: Written) -> usize
     ensures { λ r. ⌜ r ≡ lengthIn written ⌝ }
 {
     match written {
-        Written::Whole(size) => size,
+        Written::Whole(length) => length,
         Written::TooShort(needed) => needed,
     }
 }
