@@ -1,17 +1,16 @@
 -- What the contract of `judge` comes to, for every text and allowance: it admits one answer, which is computed and is demand 3's. The least
 -- solution is in every acceptable one, so a breach of the least is in all of them, and the least is discreet as soon as any is.
 -- Assumes nothing.
-use Prim.Native.Nat.{ℕ, _<_}
-use mathlib.Core.Path.{_≡_, refl, sym, ap, subst, subst⁻¹, _∙_}
+use Prim.Native.Nat.{ℕ, _≤_}
+use mathlib.Core.Path.{_≡_, sym, ap, subst, subst⁻¹, _∙_}
 use mathlib.Core.List.{List}
-use native.Mathlib.Decide.{ℕ-discrete, decLt}
-use native.Mathlib.Omega.{arith}
-use Rattle.reading.specs.Plan.{Outcome, refused, read, Plan, planIn}
-use Rattle.reading.specs.Promise.{Kept}
-use Rattle.reading.proofs.Promise.{kept}
+use native.Mathlib.Decide.{ℕ-discrete}
+use Rattle.reading.specs.Plan.{read, Plan, planIn}
 use Rattle.solving.specs.declared.Solved.{Solved}
 use Rattle.solving.specs.Solutions.{inSet, outSet, Sets, Contained, membersIn}
-use Rattle.solving.specs.Demand.{LeastAnswer, PlanDemand, Demand2}
+use Rattle.solving.specs.Rounds.{Count}
+use Rattle.solving.specs.Demand.{LeastAnswer}
+use Rattle.solving.proofs.Leastness.{count-unique}
 use Rattle.solving.proofs.Demands.{once as solved-once, computed as solved-computed, demand-2}
 use Rattle.judging.specs.declared.Answer.{Answer}
 use Rattle.judging.specs.declared.Breach.{Breach}
@@ -76,21 +75,10 @@ least-demand plan n s v a on = record {
     judged : VerdictOn (lowerIn plan) sets v
     judged = subst (λ h. VerdictOn (Lower (h .top)) sets v) (a .head) (on .answered (ap (λ f. f .number) (a .refusal)))
 
--- for every text and allowance that is answered
-pub demand-3 : (text : List ℕ) (allowance : ℕ) (r : Answer) → Judges (planIn text) allowance r → r .solved .refusal .number ≡ 0
-    → (plan : Plan) × (planIn text ≡ read plan) × Demand3 plan (r .verdict)
-demand-3 text allowance r j e = go (planIn text) refl (kept text)
-  where
-    demanded : Demand2 (planIn text) allowance (r .solved)
-    demanded = demand-2 text allowance (r .solved) (j .solved)
-
-    whole : (plan : Plan) → PlanDemand plan allowance (r .solved) → Demand3 plan (r .verdict)
-    whole plan d = answered (decLt allowance (d .count))
-      where
-        answered : Dec (allowance < d .count) → Demand3 plan (r .verdict)
-        answered (yes l) = absurd (omega (arith, e, ap (λ s. s .refusal .number) (d .over l)))
-        answered (no l) = least-demand plan (d .count) (r .solved) (r .verdict) (d .answered (omega arith)) (j .verdict)
-
-    go : (o : Outcome Plan) → planIn text ≡ o → Kept o → (plan : Plan) × (planIn text ≡ read plan) × Demand3 plan (r .verdict)
-    go (refused f) p k = absurd (omega (arith, e, k .0, ap (λ s. s .refusal .number) (demanded .refusals f p)))
-    go (read plan) p k = (plan, p, whole plan (demanded .plans plan p))
+-- for every text that reads as a plan, and every allowance that its count is within
+pub demand-3 : (text : List ℕ) (allowance : ℕ) (r : Answer) → Judges (planIn text) allowance r
+    → (plan : Plan) → planIn text ≡ read plan → (n : ℕ) → Count (plan .tree) n → n ≤ allowance → Demand3 plan (r .verdict)
+demand-3 text allowance r j plan e n counts enough =
+    let demanded = demand-2 text allowance (r .solved) (j .solved) .plans plan e in
+    let within = subst (λ m. m ≤ allowance) (count-unique (plan .tree) n (demanded .count) counts (demanded .counts)) enough in
+    least-demand plan (demanded .count) (r .solved) (r .verdict) (demanded .answered within) (j .verdict)

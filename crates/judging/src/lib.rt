@@ -58,7 +58,7 @@ fn going_down(low: usize, high: usize, top: u8, sent: u32, received: u32) -> u32
 }
 
 // The verdict on any sets, with the levels 0 to `top` ordered as numbers: yes exactly if nothing goes down, and otherwise the first breach.
-pub fn verdict_of(solution: Solution, top: u8) -> Verdict
+fn verdict_of(solution: Solution, top: u8) -> Verdict
     ensures { λ r. ⌜ VerdictOn (Lower top) (membersIn solution) r ⌝ }
 {
     let outs = solution.outs;

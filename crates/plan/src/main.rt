@@ -1,11 +1,7 @@
 // Prints the answer sheet of the plan on standard input.
+use inputs::FRONT;
 use libc::STDIN_FILENO;
 use libc::STDOUT_FILENO;
-
-// No count of rounds is higher.
-const ALLOWANCE: u16 = 17409;
-// A byte more than a plan's text may have: what follows it changes nothing.
-const ROOM: usize = 16385;
 
 // Reads some more of standard input and drops it; says whether there was any.
 fn drop_some() -> bool {
@@ -23,10 +19,10 @@ fn drop_rest() {
 
 // Prints the sheet of the text on standard input.
 fn main() {
-    let mut text = [0u8; ROOM];
-    let size = io::read_full(STDIN_FILENO, &mut text);
+    let mut front = [0u8; FRONT];
+    let size = io::read_full(STDIN_FILENO, &mut front);
     drop_rest();
-    let answer = sheet::whole(&text[..size], ALLOWANCE);
+    let answer = inputs::of_input(front, size);
     let bytes = answer.bytes;
     io::write_all(STDOUT_FILENO, &bytes[..answer.size]);
 }

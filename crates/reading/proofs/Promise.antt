@@ -5,10 +5,12 @@ use mathlib.Core.Path.{_≡_, refl, sym, ap, _∙_}
 use mathlib.Core.Logic.{_↔_}
 use mathlib.Core.Bool.{Bool, true, false, cond, _||_}
 use mathlib.Core.List.{List, [], _∷_}
+use native.Mathlib.Decide.{decLe}
 use native.Mathlib.Omega.{arith}
 use lib.Dec.{ltb, eqb, lit<}
-use lib.ListN.{length}
-use borrow.Author.Tests.{ltb-false}
+use lib.ListN.{length, take}
+use lib.Seq.{take-all, length-take-le}
+use borrow.Author.Tests.{ne-eqb, lt-ltb, ltb-false}
 use Rattle.reading.specs.declared.Head.{Head}
 use Rattle.reading.specs.declared.Reading.{Reading}
 use Rattle.reading.specs.Limits.{longest, mostDepth}
@@ -98,6 +100,20 @@ number-zero s = (go (planIn s) refl (kept s), λ w. ap (λ o. readingOf o .refus
     go : (o : Outcome Plan) → planIn s ≡ o → Kept o → readingOf o .refusal .number ≡ 0 → (p : Plan) × (planIn s ≡ read p)
     go (refused f) e k z = let some = k .0 in absurd (omega arith)
     go (read p) e k z = (p, e)
+
+-- a text is decided by any more bytes of it than the longest text has: what follows them changes nothing
+pub cut-reads : (n : ℕ) (text : List ℕ) → longest < n → planIn (take n text) ≡ planIn text
+unfolding planIn wrongLength
+cut-reads n text more = go (decLe (length text) n)
+  where
+    too-long : (s : List ℕ) → longest < length s → planIn s ≡ refused (record { number = 1; line = 0 })
+    too-long s h = simp (ne-eqb (length s) 0 (λ e. omega arith), lt-ltb longest (length s) h)
+
+    go : Dec (length text ≤ n) → planIn (take n text) ≡ planIn text
+    go (yes h) = ap planIn (take-all n text h)
+    go (no longer) =
+        let cut = length-take-le n text (omega arith) in
+        too-long (take n text) (omega arith) ∙ sym (too-long text (omega arith))
 
 -- two outcomes that the contract of `read` admits are equal
 pub once : (s : List ℕ) (a b : Reading) → a ≡ readingOf (planIn s) → b ≡ readingOf (planIn s) → a ≡ b

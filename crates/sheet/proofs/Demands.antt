@@ -8,14 +8,17 @@ use native.Mathlib.Omega.{arith}
 use lib.ListN.{length, drop, getD, replicate, length-append, length-replicate, drop-of-length-le}
 use lib.Seq.{length-take-le}
 use Rattle.reading.specs.declared.Refusal.{Refusal}
-use Rattle.reading.specs.Plan.{refused, padded}
+use Rattle.reading.specs.Plan.{refused, planIn, padded}
 use Rattle.reading.specs.Promise.{Kept}
 use Rattle.reading.proofs.Promise.{kept}
 use Rattle.reading.proofs.Stores.{drop-replicate}
 use Rattle.solving.specs.declared.Solved.{Solved}
+use Rattle.solving.specs.Solve.{refusedBy, overAllowance}
+use Rattle.solving.specs.Demand.{Demand2}
+use Rattle.solving.proofs.Demands.{demand-2}
 use Rattle.judging.specs.declared.Answer.{Answer}
 use Rattle.judging.specs.declared.Verdict.the-variants.{Unjudged}
-use Rattle.judging.specs.Judge.{Judges}
+use Rattle.judging.specs.Judge.{VerdictBeside, Judges}
 use Rattle.judging.proofs.Verdicts.{verdict-once}
 use Rattle.judging.proofs.Demands.{once as answer-once}
 use Rattle.sheet.specs.declared.Sheet.{Sheet}
@@ -23,7 +26,7 @@ use Rattle.sheet.specs.declared.Written.{Written}
 use Rattle.sheet.specs.declared.Written.the-variants.{Whole, TooShort}
 use Rattle.sheet.specs.Sheet.{sheetOf}
 use Rattle.sheet.specs.Write.{valuesOf, lengthIn, Writes, longestSheet, IsWhole, Counted}
-use Rattle.sheet.specs.Demand.{IsRefusal, Demand1}
+use Rattle.sheet.specs.Demand.{refusalOf, IsRefusal, Demand1}
 use Rattle.sheet.proofs.Sheets.{sheet-once, sheet-most}
 
 -- ---- outcomes
@@ -112,32 +115,41 @@ module _ {text : List ℕ} {allowance : ℕ} where
 
 -- ---- demand 1
 
-refused-answer : (allowance : ℕ) (f : Refusal) (a : Answer) → Kept (refused f) → Judges (refused f) allowance a → IsRefusal f a
-refused-answer allowance f a k j = record {
-  least = k .0;
-  most = k .1;
-  is = λ i. record { solved = j .solved i; verdict = unjudged i };
-}
+-- a text that solving refuses has no verdict
+refusal-answer : (f : Refusal) (a : Answer) → 1 ≤ f .number → a .solved ≡ refusedBy f → VerdictBeside (a .solved) (a .verdict) → a ≡ refusalOf f
+refusal-answer f a some solved beside = λ i. record { solved = solved i; verdict = unjudged i }
   where
     number : a .solved .refusal .number ≡ f .number
-    number = ap (λ (s : Solved). s .refusal .number) (j .solved)
+    number = ap (λ (s : Solved). s .refusal .number) solved
 
     unjudged : a .verdict ≡ Unjudged
-    unjudged = verdict-once (a .verdict) Unjudged (j .verdict .refused (λ e. omega (arith, e, k .0, number)))
+    unjudged = verdict-once (a .verdict) Unjudged (beside .refused (λ e. omega (arith, e, some, number)))
 
 pub demand-1 : (text : List ℕ) (allowance : ℕ) (before : List ℕ) (returned : Written) (after : List ℕ) → Writes text allowance before returned after
-    → Demand1 text allowance before after
+    → Demand1 text allowance before returned after
 demand-1 text allowance before returned after w = record {
   answer = answer;
-  judged = w .of-text .judged;
-  only = λ a j. answer-once text allowance a answer j (w .of-text .judged);
-  refusals = λ f e. refused-answer allowance f answer (subst Kept e (kept text)) (subst (λ o. Judges o allowance answer) e (w .of-text .judged));
-  untouched = λ h. w .longer (omega (arith, long)) .1;
-  written = λ h. w .otherwise (omega (arith, long)) .1 ∙ ap (λ s. s ++ drop (length s) before) (w .of-text .is);
+  judged = judged;
+  only = λ a j. answer-once text allowance a answer j judged;
+  refusals = λ f e.
+      let k = subst Kept e (kept text) in
+      record { least = k .0; most = k .1; is = refusal-answer f answer (k .0) (solved .refusals f e) (judged .verdict) };
+  over = λ plan e exceeds.
+      let demanded = solved .plans plan e in
+      refusal-answer overAllowance answer (omega arith) (demanded .over (exceeds (demanded .count) (demanded .counts))) (judged .verdict);
+  untouched = λ h. subst (λ s. (valuesOf returned ≡ 15 ∷ length s ∷ []) × (after ≡ before)) is (w .longer (omega (arith, ap length is)));
+  written = λ h.
+      subst (λ s. (valuesOf returned ≡ 0 ∷ length s ∷ []) × (after ≡ s ++ drop (length s) before)) is (w .otherwise (omega (arith, ap length is)));
 }
   where
     answer : Answer
     answer = w .of-text .answer
 
-    long : length (w .sheet) ≡ length (sheetOf answer)
-    long = ap length (w .of-text .is)
+    judged : Judges (planIn text) allowance answer
+    judged = w .of-text .judged
+
+    solved : Demand2 (planIn text) allowance (answer .solved)
+    solved = demand-2 text allowance (answer .solved) (judged .solved)
+
+    is : w .sheet ≡ sheetOf answer
+    is = w .of-text .is

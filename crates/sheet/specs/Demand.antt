@@ -2,28 +2,38 @@
 -- Assumes nothing.
 use Prim.Native.Nat.{ℕ, _<_, _≤_}
 use mathlib.Core.Path.{_≡_}
-use mathlib.Core.List.{List, _++_}
+use mathlib.Core.List.{List, [], _∷_, _++_}
 use lib.ListN.{length, drop}
 use Rattle.reading.specs.declared.Refusal.{Refusal}
-use Rattle.reading.specs.Plan.{refused, planIn}
-use Rattle.solving.specs.Solve.{refusedBy}
+use Rattle.reading.specs.Plan.{refused, read, Plan, planIn}
+use Rattle.solving.specs.Rounds.{Exceeds}
+use Rattle.solving.specs.Solve.{refusedBy, overAllowance}
 use Rattle.judging.specs.declared.Answer.{Answer}
 use Rattle.judging.specs.declared.Verdict.the-variants.{Unjudged}
 use Rattle.judging.specs.Judge.{Judges}
+use Rattle.sheet.specs.declared.Written.{Written}
 use Rattle.sheet.specs.Sheet.{sheetOf}
+use Rattle.sheet.specs.Write.{valuesOf}
 
--- a refusal of reading: its number is one of 1 to 13, all sets are empty, and there is no verdict
+-- the answer of a refusal: all sets are empty, the count is 0, and there is no verdict
+abbrev pub refusalOf : Refusal → Answer
+refusalOf f = record { solved = refusedBy f; verdict = Unjudged }
+
+-- a refusal of reading: its number is one of 1 to 13
 pub record IsRefusal (f : Refusal) (a : Answer) : Type 0 where
   pub least : 1 ≤ f .number
   pub most : f .number ≤ 13
-  pub is : a ≡ record { solved = refusedBy f; verdict = Unjudged }
+  pub is : a ≡ refusalOf f
 
--- every text has an answer, and one only; where reading refuses it, by document 01's order, that is the refusal. A buffer that is shorter
--- than the sheet is untouched, and into any other just the sheet's bytes are written
-pub record Demand1 (text : List ℕ) (allowance : ℕ) (before after : List ℕ) : Type 0 where
+-- every text has an answer, and one only; where reading refuses it, by document 01's order, that is the refusal, and where the count of a plan
+-- exceeds the allowance it is 14. For a buffer that is shorter than the sheet 15 and the length needed are returned and the buffer is
+-- untouched; for any other the sheet's length is returned, and just the sheet's bytes are written
+pub record Demand1 (text : List ℕ) (allowance : ℕ) (before : List ℕ) (returned : Written) (after : List ℕ) : Type 0 where
   pub answer : Answer
   pub judged : Judges (planIn text) allowance answer
   pub only : (a : Answer) → Judges (planIn text) allowance a → a ≡ answer
   pub refusals : (f : Refusal) → planIn text ≡ refused f → IsRefusal f answer
-  pub untouched : length before < length (sheetOf answer) → after ≡ before
-  pub written : length (sheetOf answer) ≤ length before → after ≡ sheetOf answer ++ drop (length (sheetOf answer)) before
+  pub over : (plan : Plan) → planIn text ≡ read plan → Exceeds (plan .tree) allowance → answer ≡ refusalOf overAllowance
+  pub untouched : length before < length (sheetOf answer) → (valuesOf returned ≡ 15 ∷ length (sheetOf answer) ∷ []) × (after ≡ before)
+  pub written : length (sheetOf answer) ≤ length before
+      → (valuesOf returned ≡ 0 ∷ length (sheetOf answer) ∷ []) × (after ≡ sheetOf answer ++ drop (length (sheetOf answer)) before)

@@ -33,7 +33,7 @@ pub fn write(text: &[u8], allowance: u16, buffer: &mut [u8]) -> Written
 }
 
 // The bytes that suffice for every sheet.
-const LONGEST: usize = 8128;
+pub const LONGEST: usize = 8128;
 
 // A whole sheet: its bytes from the start, with zeros behind them, and how many they are.
 pub struct Sheet {

@@ -13,7 +13,7 @@ use Rattle.reading.specs.declared.Head.{Head}
 use Rattle.reading.specs.Promise.{HeadWithin, EachWithin}
 use Rattle.reading.specs.Tree.{Tree, listing}
 use Rattle.solving.specs.Solutions.{Fact, outermost}
-use Rattle.solving.specs.Rounds.{Settled, after, Count, mostRounds}
+use Rattle.solving.specs.Rounds.{Settled, after, Count, mostRounds, roundCeiling}
 use Rattle.solving.specs.Compute.{wanted, hasFact, addAll, Run, unfinished, settled, run}
 use Rattle.solving.proofs.Lists.{Mem}
 use Rattle.solving.proofs.Computed.{has-is, one-more, RunIs, whole-run}
@@ -79,7 +79,7 @@ module _ (h : Head) (p : Tree) (g : EachWithin h (listing p)) where
           absurd (omega arith)
 
 -- no plan takes more than 17,409 rounds
-pub count-ceiling : (h : Head) → HeadWithin h → mostRounds h ≤ 17409
+pub count-ceiling : (h : Head) → HeadWithin h → mostRounds h ≤ roundCeiling
 count-ceiling h f =
     let C = h .channels in
     let a : h .binders * C ≤ 32 * 32 = mul-le-mul (f .binders) (f .channels) in

@@ -10,6 +10,7 @@ use Rattle.reading.specs.Plan.{Outcome, refused, read, Plan, planIn}
 use Rattle.reading.specs.Promise.{Kept}
 use Rattle.reading.proofs.Promise.{kept}
 use Rattle.solving.specs.declared.Solved.{Solved}
+use Rattle.solving.specs.Rounds.{roundCeiling}
 use Rattle.solving.specs.Solve.{Solves}
 use Rattle.solving.specs.Demand.{Demand2}
 use Rattle.solving.specs.Compute.{solvedOf}
@@ -27,7 +28,7 @@ pub demand-2 : (text : List ℕ) (allowance : ℕ) (r : Solved) → Solves (plan
 demand-2 text allowance r = outcome-demand (planIn text) allowance r (kept text)
 
 -- with an allowance of 17,409 no text is refused 14
-pub never-14 : (text : List ℕ) (allowance : ℕ) (r : Solved) → 17409 ≤ allowance → Solves (planIn text) allowance r → r .refusal .number ≢ 14
+pub never-14 : (text : List ℕ) (allowance : ℕ) (r : Solved) → roundCeiling ≤ allowance → Solves (planIn text) allowance r → r .refusal .number ≢ 14
 never-14 text allowance r enough = go (planIn text) (kept text)
   where
     number : {f g : Refusal} → f ≡ g → f .number ≡ g .number

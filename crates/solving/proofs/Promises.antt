@@ -12,7 +12,7 @@ use Rattle.reading.specs.Tree.{Tree}
 use Rattle.solving.specs.declared.Solution.{Solution}
 use Rattle.solving.specs.declared.Solved.{Solved}
 use Rattle.solving.specs.Solutions.{Fact, binderSet, inSet, outSet, membersIn, Sized, InRange}
-use Rattle.solving.specs.Rounds.{after, Count}
+use Rattle.solving.specs.Rounds.{after, Count, roundCeiling}
 use Rattle.solving.specs.Least.{Least, LeastArrays}
 use Rattle.solving.specs.Solve.{Answered, Solves, refusedBy, overAllowance}
 use Rattle.solving.specs.Demand.{LeastAnswer, PlanDemand, Demand2}
@@ -97,7 +97,7 @@ solves-computed o allowance r g s = solves-once o allowance r (solvedOf o allowa
 -- ---- demand 2
 
 -- with 17,409 rounds no plan is refused 14
-pub answered-at-ceiling : (plan : Plan) (allowance : ℕ) (r : Solved) → PlanWithin plan → 17409 ≤ allowance → Solves (read plan) allowance r
+pub answered-at-ceiling : (plan : Plan) (allowance : ℕ) (r : Solved) → PlanWithin plan → roundCeiling ≤ allowance → Solves (read plan) allowance r
     → Answered (plan .head) (plan .tree) allowance r
 answered-at-ceiling plan allowance r g l (inl a) = a
 answered-at-ceiling plan allowance r g l (inr o) =

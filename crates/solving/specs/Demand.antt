@@ -7,7 +7,7 @@ use Rattle.reading.specs.declared.Refusal.{Refusal}
 use Rattle.reading.specs.Plan.{Outcome, refused, read, Plan, noRefusal}
 use Rattle.solving.specs.declared.Solved.{Solved}
 use Rattle.solving.specs.Solutions.{membersIn, LiesWithin}
-use Rattle.solving.specs.Rounds.{Count, mostRounds}
+use Rattle.solving.specs.Rounds.{Count, mostRounds, roundCeiling}
 use Rattle.solving.specs.Least.{Least}
 use Rattle.solving.specs.Solve.{refusedBy, overAllowance}
 
@@ -24,7 +24,7 @@ pub record PlanDemand (plan : Plan) (allowance : ℕ) (r : Solved) : Type 1 wher
   pub count : ℕ
   pub counts : Count (plan .tree) count
   pub bound : count ≤ mostRounds (plan .head)
-  pub ceiling : count ≤ 17409
+  pub ceiling : count ≤ roundCeiling
   pub answered : count ≤ allowance → LeastAnswer plan count r
   pub over : allowance < count → r ≡ refusedBy overAllowance
 

@@ -5,6 +5,7 @@ use mathlib.Core.Path.{_≡_}
 use mathlib.Core.Logic.{_⊎_}
 use Rattle.reading.specs.declared.Head.{Head}
 use Rattle.reading.specs.declared.Marker.{Marker}
+use Rattle.reading.specs.Limits.{mostChannels, mostBinders, highestLevel}
 use Rattle.reading.specs.Tree.{Tree, nil, silent, send, receive, sum, parallel, restriction, match, replication, bracket}
 use Rattle.solving.specs.Solutions.{Fact, binderSet, inSet, outSet, Sets, SetOf, outermost}
 use Rattle.solving.specs.Clauses.{Some, Heard, Meets}
@@ -67,6 +68,10 @@ pub record Count (p : Tree) (n : ℕ) : Type 0 where
 -- the most rounds that a plan with this head can take: B·C + 2·(k+2)·C·C + 1
 abbrev pub mostRounds : Head → ℕ
 mostRounds h = h .binders * h .channels + 2 * (h .top + 2) * h .channels * h .channels + 1
+
+-- no plan takes more rounds than this, which is that of the most channels, binders and levels: 17,409
+abbrev pub roundCeiling : ℕ
+roundCeiling = mostRounds (record { channels = mostChannels; binders = mostBinders; top = highestLevel; names = 0 })
 
 -- the count exceeds the allowance
 abbrev pub Exceeds : Tree → ℕ → Type 0

@@ -12,6 +12,9 @@ use reading::Refusal;
 use rounds::refused;
 use rounds::settle;
 
+// No plan's count of rounds is higher.
+pub const CEILING: u16 = 17409;
+
 // The outermost level, # in document 000.
 pub const OUTERMOST: u8 = 7;
 

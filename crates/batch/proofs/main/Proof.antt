@@ -3,11 +3,12 @@ use Prim.Native.Nat.{_-_, _<_, _^_}
 use mathlib.Core.Path.{_≡_, sym, _∙_}
 use native.Mathlib.Omega.{arith}
 use lib.ListN.{length}
+use Rattle.inputs.specs.Header.{longestText}
 use Rattle.batch.proofs.main.Statement.{statement}
 use Rattle.batch.proofs.main.Tie as tie
 
 abbrev Inv-loop : tie.InvT-loop
-Inv-loop room₀ number₀ room number = (65536 ≡ length room) × (number < 2 ^ 64)
+Inv-loop room₀ number₀ room number = (longestText ≡ length room) × (number < 2 ^ 64)
 
 abbrev μ-loop : tie.MeasureT-loop
 μ-loop room₀ number₀ room number = 2 ^ 64 - number
@@ -22,7 +23,7 @@ slice-aggregate-answer-next : tie.Need-slice-aggregate-answer-next Inv-loop μ-l
 slice-aggregate-answer-next c = c .before .before .loop .inv .0
 
 answer-next-requires : tie.Need-answer-next-requires Inv-loop μ-loop
-answer-next-requires c κs = omega (arith, c .before .before .loop .inv .0)
+answer-next-requires c κs = c .before .before .loop .inv .0
 
 add-number : tie.Need-add-number Inv-loop μ-loop
 add-number c = omega arith

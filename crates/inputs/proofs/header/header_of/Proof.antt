@@ -4,10 +4,10 @@ use native.Mathlib.Omega.{arith}
 use borrow.Author.Tests.{eq-eqb, ne-eqb}
 use lib.ListN.{length-take}
 use lib.Seq.{length-take-le}
-use Rattle.batch.specs.Header.{headerFor, headerOf}
+use Rattle.inputs.specs.Header.{headerFor, headerOf}
 use borrow.Author.Needs.{needs}
-use Rattle.batch.proofs.header.header_of.Statement.{statement}
-use Rattle.batch.proofs.header.header_of.Tie as tie
+use Rattle.inputs.proofs.header.header_of.Statement.{statement}
+use Rattle.inputs.proofs.header.header_of.Tie as tie
 
 returns : tie.Need-returns
 unfolding headerOf

@@ -4,10 +4,10 @@ use mathlib.Core.Path.{_≡_, refl, sym, _∙_}
 use native.Mathlib.Omega.{arith}
 use borrow.Author.Needs.{needs}
 use lib.ListN.{length, drop}
-use Rattle.batch.specs.Header.{numberFrom}
-use Rattle.batch.proofs.Numbers.{number-on, number-none, number-end, below-more, below-most}
-use Rattle.batch.proofs.header.number.Statement.{statement}
-use Rattle.batch.proofs.header.number.Tie as tie
+use Rattle.inputs.specs.Header.{numberFrom}
+use Rattle.inputs.proofs.Numbers.{number-on, number-none, number-end, below-more, below-most}
+use Rattle.inputs.proofs.header.number.Statement.{statement}
+use Rattle.inputs.proofs.header.number.Tie as tie
 
 abbrev Inv-loop : tie.InvT-loop
 Inv-loop digits n₀ i₀ n i = (numberFrom 0 digits ≡ numberFrom n (drop i digits)) × (n < 2 ^ (4 * i))

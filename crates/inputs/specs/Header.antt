@@ -5,8 +5,10 @@ use mathlib.Core.Bool.{cond}
 use mathlib.Core.List.{List, [], _∷_}
 use lib.Dec.{eqb, leb, ltb}
 use lib.ListN.{length, getD, take, drop}
-use Rattle.batch.specs.declared.header.Header.{Header}
-use Rattle.batch.specs.declared.header.Header.the-variants.{Bad, Record}
+use Rattle.inputs.specs.declared.Fault.{Fault}
+use Rattle.inputs.specs.declared.Fault.the-variants.{CutShort, NoHeader, TextTooLong, AllowanceTooLarge}
+use Rattle.inputs.specs.declared.header.Header.{Header}
+use Rattle.inputs.specs.declared.header.Header.the-variants.{Faulty, Record}
 
 -- no number of eight digits: 2 to the 32
 abbrev pub noNumber : ℕ
@@ -25,13 +27,29 @@ numberFrom n (c ∷ cs) = let more = numberFrom (n * 16 + valueOf c) cs in cond 
 abbrev pub longestText : ℕ
 longestText = 65536
 
--- a text not longer than that, and an allowance of at most 65,535
+-- the largest allowance of rounds
+abbrev pub largestAllowance : ℕ
+largestAllowance = 65535
+
+-- two numbers that are numbers, the length first, and not too large
 unfoldable pub headerFor : ℕ → ℕ → Header
-headerFor size allowance = cond (leb size longestText) (cond (leb allowance 65535) (Record size allowance) Bad) Bad
+headerFor size allowance =
+    cond (eqb size noNumber)
+    (Faulty NoHeader)
+    (cond (eqb allowance noNumber)
+    (Faulty NoHeader)
+    (cond (ltb longestText size)
+    (Faulty TextTooLong)
+    (cond (ltb largestAllowance allowance) (Faulty AllowanceTooLarge) (Record size allowance))))
 
 -- a header has 17 characters, the last a line feed
 unfoldable pub headerOf : List ℕ → Header
 headerOf line =
     cond (eqb (length line) 17)
-    (cond (eqb (getD line 16 0) 10) (headerFor (numberFrom 0 (take 8 line)) (numberFrom 0 (take 8 (drop 8 line)))) Bad)
-    Bad
+    (cond (eqb (getD line 16 0) 10) (headerFor (numberFrom 0 (take 8 line)) (numberFrom 0 (take 8 (drop 8 line)))) (Faulty NoHeader))
+    (Faulty CutShort)
+
+-- the length of the text that it announces
+abbrev pub sizeIn : Header → ℕ
+sizeIn (Faulty fault) = 0
+sizeIn (Record size allowance) = size

@@ -4,14 +4,14 @@ use mathlib.Core.Path.{_≡_}
 use mathlib.Core.List.{List}
 use native.Mathlib.Numerals.{add-one}
 use native.Mathlib.Omega.{arith}
-use borrow.Author.Tests.{lt-ltb, le-ltb, le-leb, lt-leb}
+use borrow.Author.Tests.{lt-ltb, le-ltb, le-leb, lt-leb, eq-eqb, ne-eqb}
 use lib.ListN.{length, getD, drop, drop-of-length-le}
 use lib.Pow.{pow-mono, pow-add}
 use lib.Seq.{drop-cons}
-use Rattle.batch.specs.Header.{noNumber, valueOf, numberFrom}
+use Rattle.inputs.specs.Header.{noNumber, valueOf, numberFrom}
 
 -- from the facts that branches give to the tests of the definitions
-pub ruleset tests = (lt-ltb, le-ltb, le-leb, lt-leb, arith)
+pub ruleset tests = (lt-ltb, le-ltb, le-leb, lt-leb, eq-eqb, ne-eqb, arith)
 
 module _ (digits : List ℕ) (i n : ℕ) where
   pub number-on : i < length digits → valueOf (getD digits i 0) < 16

@@ -1,9 +1,9 @@
 -- `value`: each return is the definition's answer under the tests that led to it. Assumes nothing.
-use Rattle.batch.specs.Header.{valueOf}
-use Rattle.batch.proofs.Numbers.{tests}
+use Rattle.inputs.specs.Header.{valueOf}
+use Rattle.inputs.proofs.Numbers.{tests}
 use borrow.Author.Needs.{needs}
-use Rattle.batch.proofs.header.value.Statement.{statement}
-use Rattle.batch.proofs.header.value.Tie as tie
+use Rattle.inputs.proofs.header.value.Statement.{statement}
+use Rattle.inputs.proofs.header.value.Tie as tie
 
 returns : tie.Need-returns
 unfolding valueOf

@@ -1,18 +1,23 @@
-// The header of a record.
+// The header of a record: a line of sixteen hexadecimal digits, eight for the length of the record's text and eight for its allowance of rounds.
 ghost use mathlib.Core.Path.{_≡_};
 ghost use Prim.Native.Nat.{_≤_};
 ghost use lib.ListN.{length};
-ghost use Rattle.batch.specs.Header.{valueOf, numberFrom, headerFor, headerOf};
+ghost use Rattle.inputs.specs.Header.{valueOf, numberFrom, headerFor, headerOf};
+use crate::Fault;
 
-// What a header says: how long the text is, and how many rounds are allowed.
+// What a header says: how long the text is and how many rounds are allowed, or why it is none.
 pub(crate) enum Header {
-    Bad,
+    Faulty(Fault),
     Record(usize, u16),
 }
 
 const LINE_FEED: u8 = 10;
 // No number of eight digits.
 const NO_NUMBER: u64 = 0x100000000;
+// The longest text of a record, in bytes.
+const LONGEST_TEXT: u64 = 65536;
+// The largest allowance.
+const MOST_ROUNDS: u64 = 65535;
 
 // A digit's value, and 16 for any other character.
 fn value(c: u8) -> u64
@@ -51,15 +56,21 @@ fn number(digits: &[u8]) -> u64
     n
 }
 
-// What two numbers say, if they are small enough.
+// What two numbers say, if they are numbers and not too large.
 fn header_for(size: u64, allowance: u64) -> Header
     ensures { λ r. ⌜ r ≡ headerFor size allowance ⌝ }
 {
-    if 65536 < size {
-        return Header::Bad;
+    if size == NO_NUMBER {
+        return Header::Faulty(Fault::NoHeader);
     }
-    if 65535 < allowance {
-        return Header::Bad;
+    if allowance == NO_NUMBER {
+        return Header::Faulty(Fault::NoHeader);
+    }
+    if LONGEST_TEXT < size {
+        return Header::Faulty(Fault::TextTooLong);
+    }
+    if MOST_ROUNDS < allowance {
+        return Header::Faulty(Fault::AllowanceTooLarge);
     }
     Header::Record(size as usize, allowance as u16)
 }
@@ -69,10 +80,10 @@ pub(crate) fn header_of(line: &[u8]) -> Header
     ensures { λ r. ⌜ r ≡ headerOf (now (line .entry)) ⌝ }
 {
     if line.len() != 17 {
-        return Header::Bad;
+        return Header::Faulty(Fault::CutShort);
     }
     if line[16] != LINE_FEED {
-        return Header::Bad;
+        return Header::Faulty(Fault::NoHeader);
     }
     let size = number(&line[..8]);
     let allowance = number(&line[8..16]);

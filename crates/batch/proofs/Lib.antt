@@ -1,3 +1,0 @@
--- Laws of a record's header.
-mod Numbers
-mod Headers

@@ -1,2 +1,0 @@
--- Records of the batch program.
-pub mod Header

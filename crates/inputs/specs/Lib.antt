@@ -1,0 +1,3 @@
+-- What the programs answer: for a whole input, and for a record.
+pub mod Header
+pub mod Answers

@@ -1,0 +1,104 @@
+// From what a program reads to the sheet that it prints: the whole input of `plan`, and a record of `batch`. The programs are left with
+// reading and writing. Proved: the sheet is that of the whole input at the most rounds that any plan takes, or that of the record's text at
+// the record's allowance; and a record that is none is told why.
+ghost use mathlib.Core.Path.{_≡_};
+ghost use Prim.Native.Nat.{_<_, _≤_};
+ghost use lib.ListN.{length};
+ghost use Rattle.reading.specs.Limits.{longest};
+ghost use Rattle.sheet.specs.Write.{Counted};
+ghost use Rattle.inputs.specs.Header.{headerOf, sizeIn, longestText};
+ghost use Rattle.inputs.specs.Answers.{AnswersInput, AnswersRecord, AnswersHeader, noSheet};
+use crate::header::Header;
+use crate::header::header_of;
+use sheet::LONGEST;
+use sheet::Sheet;
+
+mod header;
+
+// The bytes of an input that decide its sheet: one more than a text may have.
+pub const FRONT: usize = 16385;
+
+// Why a record is none.
+pub enum Fault {
+    None,
+    CutShort,
+    NoHeader,
+    TextTooLong,
+    AllowanceTooLarge,
+}
+
+// What a record is answered: its sheet, or what is wrong with it beside a blank one.
+pub struct Recorded {
+    pub fault: Fault,
+    pub sheet: Sheet,
+}
+
+// The sheet of a whole input of which the front is lent, with room for more than the longest text.
+fn of_front(front: &[u8], size: usize) -> Sheet
+    requires { ⌜ longest < length (now front) ⌝ }
+    ensures { λ r. ⌜ AnswersInput (now (front .entry)) size r ⌝ }
+    ensures { λ r. ⌜ Counted r ⌝ }
+{
+    if front.len() < size {
+        return sheet::whole(front, solving::CEILING);
+    }
+    sheet::whole(&front[..size], solving::CEILING)
+}
+
+// The sheet of a whole input, with the most rounds that any plan takes, where `front` begins with as many bytes of the input as it can hold,
+// and these are `size`.
+pub fn of_input(front: [u8; FRONT], size: usize) -> Sheet
+    ensures { λ r. ⌜ AnswersInput front size r ⌝ }
+    ensures { λ r. ⌜ Counted r ⌝ }
+{
+    of_front(&front, size)
+}
+
+// How many bytes the text of a record has, by its header's line: none if that is no header.
+pub fn text_size(line: &[u8]) -> usize
+    ensures { λ r. ⌜ (r ≡ sizeIn (headerOf (now (line .entry)))) × (r ≤ longestText) ⌝ }
+{
+    match header_of(line) {
+        Header::Faulty(_) => 0,
+        Header::Record(size, _) => size,
+    }
+}
+
+// No sheet.
+fn blank() -> Sheet
+    ensures { λ r. ⌜ r ≡ noSheet ⌝ }
+{
+    let bytes = [0u8; LONGEST];
+    Sheet { bytes, size: 0 }
+}
+
+// What a record is answered whose header is good, by as many bytes of its text as there were.
+fn of_text(text: &[u8], size: usize, allowance: u16) -> Recorded
+    ensures { λ r. ⌜ AnswersHeader (Header.Record size allowance) (now (text .entry)) r ⌝ }
+    ensures { λ r. ⌜ Counted (r .sheet) ⌝ }
+{
+    if text.len() < size {
+        return Recorded {
+            fault: Fault::CutShort,
+            sheet: blank(),
+        };
+    }
+    Recorded {
+        fault: Fault::None,
+        sheet: sheet::whole(&text[..size], allowance),
+    }
+}
+
+// What a record is answered, by its header's line and as many bytes of its text as there were.
+pub fn of_record(line: &[u8], text: &[u8]) -> Recorded
+    ensures { λ r. ⌜ AnswersRecord (now (line .entry)) (now (text .entry)) r ⌝ }
+    ensures { λ r. ⌜ Counted (r .sheet) ⌝ }
+{
+    match header_of(line) {
+        Header::Faulty(fault) => Recorded {
+            fault,
+            sheet: blank(),
+        },
+        Header::Record(size, allowance) => of_text(text, size, allowance),
+    }
+}

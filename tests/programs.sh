@@ -1,0 +1,126 @@
+#!/bin/sh
+# What plan and batch do with their input: the longest text and longer ones, input that comes slowly, and records that are none. Run from the root,
+# with both programs built.
+set -u
+work=$(mktemp -d)
+trap 'rm -rf "$work"' EXIT
+failed=0
+passed=0
+
+# same NAME WANTED GOT: two files have the same bytes.
+same() {
+    if cmp -s "$2" "$3"; then
+        passed=$((passed + 1))
+    else
+        failed=$((failed + 1))
+        echo "programs.sh: $1: it printed:"
+        cat "$3"
+    fi
+}
+
+# prints PROGRAM NAME INPUT OUTPUT: for an input it prints just the output; both in the notation of printf.
+prints() {
+    printf "$3" >"$work/in"
+    printf "$4" >"$work/wanted"
+    ./run "target/bin/$1" <"$work/in" >"$work/out"
+    same "$1: $2" "$work/wanted" "$work/out"
+}
+
+# answers NAME: the plan in $work/in has the sheet in $work/wanted.
+answers() {
+    ./run target/bin/plan <"$work/in" >"$work/out"
+    same "plan: $1" "$work/wanted" "$work/out"
+}
+
+# A relay of 251 nodes that takes 3,073 rounds.
+cp second/tests/plans/relay.plan "$work/in"
+cp second/tests/plans/relay.sheet "$work/wanted"
+answers 'many rounds'
+
+# pad COUNT: so many line feeds.
+pad() {
+    head -c "$1" /dev/zero | tr '\0' '\n'
+}
+
+# A plan's text of any length is refused at what follows the plan (13), up to the longest; past it at its length (1).
+small='010101000000\n10\n'
+{ printf "$small" && pad 16368; } >"$work/in"
+printf '3f0d0003\nrefused\n' >"$work/wanted"
+answers '16,384 bytes, the longest text'
+pad 1 >>"$work/in"
+printf '3f010000\nrefused\n' >"$work/wanted"
+answers '16,385 bytes, one too many'
+pad 53615 >>"$work/in"
+answers '70,000 bytes'
+# A plan of 133 bytes, and a line more: all of the text is looked at, and not just a plan at its front.
+{ printf "$small" && printf '10\n%.0s' 1 2 3 4 5 6 7 8 9 10; } >"$work/in"
+printf '3f0d0003\nrefused\n' >"$work/wanted"
+answers 'a plan, and ten lines more'
+
+# The input is read to its end: whoever writes it is not broken off, however long it is.
+{
+    pad 3000000
+    echo $? >"$work/status"
+} | ./run target/bin/plan >"$work/out"
+printf '3f010000\nrefused\n' >"$work/wanted"
+same 'plan: 3,000,000 bytes' "$work/wanted" "$work/out"
+echo 0 >"$work/wanted"
+same 'plan: their writer is heard out' "$work/wanted" "$work/status"
+
+# Input that comes in pieces is the same input.
+{
+    printf '0101'
+    sleep 0.3
+    printf '01000000\n'
+    sleep 0.3
+    printf '10\n'
+} | ./run target/bin/plan >"$work/out"
+printf '2f0001\n3001\nflow clear\n' >"$work/wanted"
+same 'plan: a slow writer' "$work/wanted" "$work/out"
+{
+    printf '00000010'
+    sleep 0.3
+    printf '00004401\n010101'
+    sleep 0.3
+    printf '000000\n10\n0000'
+    sleep 0.3
+    printf '001000000000\n010101000000\n10\n'
+} | ./run target/bin/batch >"$work/out"
+printf '2f0001\n3001\nflow clear\n3f0e0000\nrefused\n' >"$work/wanted"
+same 'batch: a slow writer' "$work/wanted" "$work/out"
+
+# Records, good and bad. The allowance is the record's own.
+good='0000001000004401\n010101000000\n10\n'
+sheet='2f0001\n3001\nflow clear\n'
+cut='it is cut short'
+header='its header is not sixteen digits of 0-9 a-f and a line feed'
+length='its length is over 65,536'
+allowance='its allowance is over 65,535'
+prints batch 'no record' '' ''
+prints batch 'a record' "$good" "$sheet"
+prints batch 'two records' "$good$good" "$sheet$sheet"
+prints batch 'no rounds allowed' '0000001000000000\n010101000000\n10\n' '3f0e0000\nrefused\n'
+prints batch 'one round allowed' '0000001000000001\n010101000000\n10\n' "$sheet"
+prints batch 'an empty text' '0000000000004401\n' '3f010000\nrefused\n'
+prints batch 'a good record after a refused one' "0000000f00004401\n010101000000\n1\n$good" "3f020002\nrefused\n$sheet"
+prints batch 'NUL bytes in a text' "0000001000004401\n010101000000\n1\000\n$good" "3f020002\nrefused\n$sheet"
+prints batch 'NUL bytes in a header' "${good}00000010\0000004401\n" "${sheet}bad record 2: $header\n"
+prints batch 'a text cut short' "${good}0000001000004401\n010101000000\n10" "${sheet}bad record 2: $cut\n"
+prints batch 'a header cut short' "${good}000000100000440" "${sheet}bad record 2: $cut\n"
+prints batch 'a header without its line feed' "${good}0000001000004401" "${sheet}bad record 2: $cut\n"
+prints batch 'a header alone' "0000001000004401\n" "bad record 1: $cut\n"
+prints batch 'an upper-case digit in the length' '0000001A00004401\n' "bad record 1: $header\n"
+prints batch 'an upper-case digit in the allowance' '000000100000440A\n' "bad record 1: $header\n"
+prints batch 'another character' '0000001g00004401\n' "bad record 1: $header\n"
+prints batch 'another character than a line feed' '0000001000004401 010101000000\n10\n' "bad record 1: $header\n"
+prints batch 'a length over 65,536' '0001000100004401\n' "bad record 1: $length\n"
+prints batch 'the largest length that can be written' 'ffffffff00004401\n' "bad record 1: $length\n"
+prints batch 'the largest allowance' '000000100000ffff\n010101000000\n10\n' "$sheet"
+prints batch 'an allowance over 65,535' '0000001000010000\n010101000000\n10\n' "bad record 1: $allowance\n"
+{ printf '0001000000004401\n' && pad 65536 && printf "$good"; } >"$work/in"
+printf "3f010000\nrefused\n$sheet" >"$work/wanted"
+./run target/bin/batch <"$work/in" >"$work/out"
+same 'batch: a length of 65,536' "$work/wanted" "$work/out"
+
+echo "programs.sh: $passed held, $failed did not"
+[ $failed = 0 ]
