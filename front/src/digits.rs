@@ -1,0 +1,35 @@
+//! Lower-case hexadecimal digits, as plans and sheets are written.
+
+/// The bytes that a line of lower-case hexadecimal digits gives.
+pub fn bytes_of(line: &[u8]) -> Option<Vec<u8>> {
+    if !line.len().is_multiple_of(2) {
+        return None;
+    }
+    let pairs = line.chunks(2);
+    pairs
+        .map(|pair| Some(16 * digit(pair[0])? + digit(pair[1])?))
+        .collect()
+}
+
+/// The value of a lower-case hexadecimal digit.
+pub fn digit(character: u8) -> Option<u8> {
+    match character {
+        b'0'..=b'9' => Some(character - b'0'),
+        b'a'..=b'f' => Some(character - b'a' + 10),
+        _ => None,
+    }
+}
+
+#[cfg(test)]
+mod tests {
+    use super::*;
+
+    #[test]
+    fn two_digits_are_a_byte_and_nothing_else_is() {
+        assert_eq!(bytes_of(b"09afc0"), Some(vec![0x09, 0xaf, 0xc0]));
+        assert_eq!(bytes_of(b""), Some(Vec::new()));
+        for line in ["0", "0a1", "0A", "0g", "0/", "0:", "0`", " 0"] {
+            assert_eq!(bytes_of(line.as_bytes()), None, "{line}");
+        }
+    }
+}

@@ -1,0 +1,217 @@
+//! Texts as people write them: a plan's text, taken as it stands, or a source,
+//! a plan's text with remarks; and which line of the one is which of the other.
+
+use std::borrow::Cow;
+
+const BYTE_ORDER_MARK: &[u8] = b"\xef\xbb\xbf";
+
+/// The two forms in which a plan is written.
+#[derive(Clone, Copy, Debug, PartialEq, Eq)]
+pub enum Form {
+    Plan,
+    Source,
+}
+
+impl Form {
+    /// The form that a text's first bytes tell: a remark or a byte order mark begins a source.
+    fn of(written: &[u8]) -> Form {
+        if written.starts_with(b"#") || written.starts_with(BYTE_ORDER_MARK) {
+            Form::Source
+        } else {
+            Form::Plan
+        }
+    }
+}
+
+/// A text as it was written, with its form.
+pub struct Text {
+    written: Vec<u8>,
+    form: Form,
+}
+
+/// A line of the plan's text, with its number, from 1, in the text as it was written.
+#[derive(Debug, PartialEq, Eq)]
+pub struct Line {
+    pub number: usize,
+    pub characters: Vec<Character>,
+    pub ended: bool,
+}
+
+/// A character of the plan's text, with its place, from 1, in the line as it was written.
+#[derive(Clone, Copy, Debug, PartialEq, Eq)]
+pub struct Character {
+    pub byte: u8,
+    pub place: usize,
+}
+
+impl Text {
+    /// The text in the form that is asked for, or else in the one that its first bytes tell.
+    pub fn new(written: Vec<u8>, form: Option<Form>) -> Text {
+        let form = form.unwrap_or_else(|| Form::of(&written));
+        Text { written, form }
+    }
+
+    /// Whether the text is a source.
+    pub fn is_source(&self) -> bool {
+        self.form == Form::Source
+    }
+
+    /// The plan's text, for the proved program to judge.
+    pub fn plan(&self) -> Cow<'_, [u8]> {
+        match self.form {
+            Form::Plan => Cow::Borrowed(&self.written),
+            Form::Source => Cow::Owned(self.lines().flat_map(Line::bytes).collect()),
+        }
+    }
+
+    /// The line of the plan's text with this number, from 1, if there is one.
+    pub fn line(&self, number: usize) -> Option<Line> {
+        self.lines().nth(number.checked_sub(1)?)
+    }
+
+    /// The lines of the plan's text.
+    fn lines(&self) -> impl Iterator<Item = Line> + '_ {
+        let written = match self.form {
+            Form::Plan => &self.written,
+            Form::Source => self
+                .written
+                .strip_prefix(BYTE_ORDER_MARK)
+                .unwrap_or(&self.written),
+        };
+        let numbered = written.split_inclusive(|byte| *byte == b'\n').zip(1..);
+        numbered.filter_map(|(line, number)| match self.form {
+            Form::Plan => Some(as_it_stands(line, number)),
+            Form::Source => without_remark(line, number),
+        })
+    }
+}
+
+impl Line {
+    /// The line's bytes, with its line feed if it has one.
+    fn bytes(self) -> impl Iterator<Item = u8> {
+        let feed = self.ended.then_some(b'\n');
+        let characters = self.characters.into_iter();
+        characters.map(|character| character.byte).chain(feed)
+    }
+}
+
+/// The characters with their places, from 1.
+fn placed(line: &[u8]) -> impl Iterator<Item = Character> + '_ {
+    let numbered = line.iter().zip(1..);
+    numbered.map(|(&byte, place)| Character { byte, place })
+}
+
+/// A line of a plan's text, which may be the last and lack its line feed.
+fn as_it_stands(line: &[u8], number: usize) -> Line {
+    let characters = line.strip_suffix(b"\n");
+    Line {
+        number,
+        characters: placed(characters.unwrap_or(line)).collect(),
+        ended: characters.is_some(),
+    }
+}
+
+/// The line of the plan's text that a source's line gives, if it has more than blanks and a remark.
+fn without_remark(line: &[u8], number: usize) -> Option<Line> {
+    let line = line.strip_suffix(b"\n").unwrap_or(line);
+    let line = line.strip_suffix(b"\r").unwrap_or(line);
+    let characters: Vec<Character> = placed(line)
+        .take_while(|character| character.byte != b'#')
+        .filter(|character| !matches!(character.byte, b' ' | b'\t'))
+        .map(|character| Character {
+            byte: lower_digit(character.byte),
+            ..character
+        })
+        .collect();
+    (!characters.is_empty()).then_some(Line {
+        number,
+        characters,
+        ended: true,
+    })
+}
+
+/// A digit A to F as a plan's text has it, and any other byte as it is.
+fn lower_digit(byte: u8) -> u8 {
+    match byte {
+        b'A'..=b'F' => byte.to_ascii_lowercase(),
+        _ => byte,
+    }
+}
+
+#[cfg(test)]
+mod tests {
+    use super::*;
+
+    fn plan_of(written: &[u8], form: Option<Form>) -> Vec<u8> {
+        Text::new(written.to_vec(), form).plan().into_owned()
+    }
+
+    #[test]
+    fn first_bytes_tell_a_source() {
+        for (written, source) in [
+            (&b"# 10\n"[..], true),
+            (b"\xef\xbb\xbf10\n", true),
+            (b" # 10\n", false),
+            (b"10 # end\n", false),
+            (b"\xef\xbb10\n", false),
+            (b"", false),
+        ] {
+            assert_eq!(Text::new(written.to_vec(), None).is_source(), source);
+        }
+        assert!(Text::new(b"10\n".to_vec(), Some(Form::Source)).is_source());
+        assert!(!Text::new(b"# 10\n".to_vec(), Some(Form::Plan)).is_source());
+    }
+
+    #[test]
+    fn a_plan_is_taken_as_it_stands() {
+        let written = b"0A \r\n\n# x\n10";
+        assert_eq!(plan_of(written, None), written);
+        let text = Text::new(written.to_vec(), None);
+        let last = text.line(4).unwrap();
+        assert_eq!((last.number, last.ended), (4, false));
+        assert_eq!(
+            text.line(2).unwrap(),
+            Line {
+                number: 2,
+                characters: Vec::new(),
+                ended: true
+            }
+        );
+        assert_eq!(text.line(5), None);
+        assert_eq!(text.line(0), None);
+    }
+
+    #[test]
+    fn a_source_loses_its_remarks_and_no_other_character() {
+        for (written, plan) in [
+            (
+                &b"# all\r\n01 0A\tFf # x\r\n\r\n \t\n10"[..],
+                &b"010aff\n10\n"[..],
+            ),
+            (b"\xef\xbb\xbf10\n", b"10\n"),
+            (b"10\r # x\n", b"10\r\n"),
+            (b"10\r\r\n", b"10\r\n"),
+            (b"\xef\xbb\xbf\xef\xbb\xbf10\n", b"\xef\xbb\xbf10\n"),
+            (b"1G\n", b"1G\n"),
+            (b"# nothing", b""),
+        ] {
+            assert_eq!(plan_of(written, Some(Form::Source)), plan);
+        }
+    }
+
+    #[test]
+    fn a_line_of_a_source_is_found_where_it_was_written() {
+        let text = Text::new(b"#\n\n 1 0 # end\n#\n 1 x\n".to_vec(), None);
+        assert_eq!(text.line(1).unwrap().number, 3);
+        let line = text.line(2).unwrap();
+        assert_eq!(line.number, 5);
+        assert_eq!(
+            line.characters[1],
+            Character {
+                byte: b'x',
+                place: 4
+            }
+        );
+        assert_eq!(text.line(3), None);
+    }
+}

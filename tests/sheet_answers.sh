@@ -1,0 +1,164 @@
+# The sheets of plans and what --words says of them; read by tests/sheet.sh. Levels, channels, handles and lines differ from each other, and lines
+# differ from their own hexadecimal digits, so that none can stand for another.
+
+# answers NAME STATUS: ./sheet prints the lines of $work/sheet for the plan $work/plan, and with --words those of $work/words after them.
+answers() {
+    expect "$1" "$2" "$work/sheet" ./sheet "$work/plan"
+    silent
+    cat "$work/sheet" "$work/words" >"$work/both"
+    expect "$1, in words" "$2" "$work/both" ./sheet --words "$work/plan"
+    silent
+}
+
+yes='Yes: no level may send anything on a channel where a lower level may receive it.'
+outside='The answer does not speak of what is sent from outside every desk.'
+
+# The two relays of examples/.
+cp examples/keeps.plan "$work/plan"
+cp examples/keeps.sheet "$work/sheet"
+lines "$yes" "$outside" 'From outside, handle 2 may be sent on channel 0, where level 1 may receive it.' \
+    'From outside, handle 3 may be sent on channel 1, where level 0 may receive it.' >"$work/words"
+answers 'a relay that keeps the promise' 0
+cp examples/breaks.plan "$work/plan"
+cp examples/breaks.sheet "$work/sheet"
+lines 'No: level 1 may send handle 2 on channel 1, where level 0, which is lower, may receive it.' \
+    'There may be other breaches: mend this one, and ask again.' >"$work/words"
+answers 'a relay that breaks it' 1
+
+# A yes that leaves something out.
+grep -v '^1901$' examples/breaks.plan >"$work/plan"
+lines 2f0007 200000000004 20010000000c 200200000010 2100010000000c 21070000000004 2107010000000c 21070200000010 22070000000004 \
+    2207010000000c 22070200000010 3001 'flow clear' >"$work/sheet"
+lines "$yes" "$outside" 'From outside, handle 2 may be sent on channel 0, where no level may receive it.' \
+    'From outside, handle 2 may be sent on channel 1, where level 0 may receive it.' \
+    'From outside, handle 3 may be sent on channel 1, where level 0 may receive it.' \
+    'From outside, handle 4 may be sent on channel 2, where no level may receive it.' >"$work/words"
+answers 'the district desk without its level' 0
+sed 's/^120103$/120102/' examples/keeps.plan >"$work/plan"
+lines 2f0007 200000000004 200100000004 200200000010 21000100000004 21010000000004 21070000000004 21070100000004 21070200000010 \
+    22010200000010 22070000000004 22070100000004 22070200000010 3001 'flow clear' >"$work/sheet"
+lines "$yes" "$outside" 'From outside, handle 2 may be sent on channel 0, where level 1 may receive it.' \
+    'From outside, handle 2 may be sent on channel 1, where level 0 may receive it.' >"$work/words"
+answers 'a household that tells the caretaker' 0
+
+# Who may receive what is sent from outside: three levels, two, one and none.
+lines 010120060608 020505 020606 020707 020808 021111 021212 021313 021414 \
+    15 121105 121206 121307 121408 10 15 1902 13110900 10 15 1904 13110901 10 15 1906 13110902 10 \
+    15 1901 13120903 10 15 1903 13120904 10 1905 13130905 10 >"$work/plan"
+lines 2f0004 200000000020 200100000020 200200000020 200300000040 200400000040 200500000080 \
+    21011200000040 21021100000020 21031200000040 21041100000020 21051300000080 21061100000020 \
+    21071100000020 21071200000040 21071300000080 22071100000020 22071200000040 22071300000080 22071400000100 3001 'flow clear' >"$work/sheet"
+lines "$yes" "$outside" 'From outside, handle 5 may be sent on channel 17, where levels 2, 4 and 6 may receive it.' \
+    'From outside, handle 6 may be sent on channel 18, where levels 1 and 3 may receive it.' \
+    'From outside, handle 7 may be sent on channel 19, where level 5 may receive it.' \
+    'From outside, handle 8 may be sent on channel 20, where no level may receive it.' >"$work/words"
+answers 'receivers of what is sent from outside' 0
+
+# What a desk sends and the outside passes on: only the passing on is sent from outside.
+lines 010107020304 020303 020404 020505 020606 15 13030900 120409 10 15 1901 120305 120306 10 1902 13040901 10 >"$work/plan"
+lines 2f0007 200000000060 200100000060 21020400000060 21070300000060 21070400000060 22010300000060 22070300000060 22070400000060 \
+    3001 'flow clear' >"$work/sheet"
+lines "$yes" "$outside" 'From outside, handle 5 may be sent on channel 4, where level 2 may receive it.' \
+    'From outside, handle 6 may be sent on channel 4, where level 2 may receive it.' >"$work/words"
+answers 'handles that the outside passes on' 0
+
+# A name that is given twice: the inner giver wins, and only in its branch.
+lines 010109010002 020508 020606 14 160507 120506 10 120605 10 >"$work/plan"
+lines 2f0002 22070600000100 22070700000040 3001 'flow clear' >"$work/sheet"
+lines "$yes" "$outside" 'From outside, handle 8 may be sent on channel 6, where no level may receive it.' \
+    'From outside, handle 6 may be sent on channel 7, where no level may receive it.' >"$work/words"
+answers 'a name that is given twice' 0
+
+# Only desks send; nobody sends.
+lines 010102010102 020000 020101 15 1900 120001 10 1901 13000200 10 >"$work/plan"
+lines 2f0004 200000000002 21010000000002 21070000000002 22000000000002 22070000000002 3001 'flow clear' >"$work/sheet"
+lines "$yes" >"$work/words"
+answers 'nothing from outside' 0
+lines "$yes" 'Nothing is ever sent in this plan: the answer says no more than that.' >"$work/words"
+lines 2f0001 3001 'flow clear' >"$work/sheet"
+lines 010101010001 020000 13000100 120000 10 >"$work/plan"
+answers 'a send that waits for ever' 0
+lines 010101000000 10 >"$work/plan"
+answers 'nothing at all' 0
+
+# Two levels, a channel and a handle that all differ.
+lines 010120010602 020011 02011d 15 1905 120001 10 1903 13000200 10 >"$work/plan"
+lines 2f0004 200020000000 21031120000000 21071120000000 22051120000000 22071120000000 30000503111d 'flow breach' >"$work/sheet"
+lines 'No: level 5 may send handle 29 on channel 17, where level 3, which is lower, may receive it.' \
+    'There may be other breaches: mend this one, and ask again.' >"$work/words"
+answers 'a breach' 1
+cp "$work/plan" "$work/breach.plan"
+cp "$work/sheet" "$work/breach.sheet"
+
+# refuses NUMBER LINE BYTES PLACE REASON: the plan $work/plan is refused so, with these four digits for the line on its sheet. The plan is kept as
+# NUMBER.plan, and its line for --each in refusals.
+refuses() {
+    lines "$(printf '3f%02x%s' "$1" "$3")" refused >"$work/sheet"
+    lines "The plan is refused$4: $5 (refusal $1)." >"$work/words"
+    answers "refusal $1 at line $2" 2
+    cp "$work/plan" "$work/$1.plan"
+    lines "$1.plan: refused $1$4: $5" >>"$work/refusals"
+}
+
+# A head and eight free names, lines 1 to 9.
+eight() {
+    lines 010120200608 020010 020111 020212 020313 020414 020515 020616 020717
+}
+
+: >"$work/refusals"
+: >"$work/plan"
+refuses 1 0 0000 '' 'the text is empty or longer than 16,384 bytes'
+repeat 5462 10 >"$work/plan"
+expect 'a text of 16,386 bytes' 2 "$work/sheet" ./sheet "$work/plan"
+{ eight && lines 11 11 11 11 11 11 11 11 11 11 11 11 1100x; } >"$work/plan"
+refuses 2 22 0016 ' at line 22' "the line has a character other than 0-9 a-f ('x', place 5) and has an odd number of characters"
+{ eight && lines 11 020911; } >"$work/plan"
+refuses 3 11 000b ' at line 11' "the line's first byte isn't allowed at this point"
+{ eight && lines 11 11 1100; } >"$work/plan"
+refuses 4 12 000c ' at line 12' 'the line has the wrong number of bytes for its first one'
+lines 010201000000 10 >"$work/plan"
+refuses 5 1 0001 ' at line 1' 'the edition is another than 01'
+lines 010121000000 10 >"$work/plan"
+refuses 6 1 0001 ' at line 1' 'the number of channels, binders, levels or free names is outside its limits'
+{ eight && lines 11 11 11 120040; } >"$work/plan"
+refuses 7 13 000d ' at line 13' 'a name is over 63, or a channel, a binder or a level is higher than the head allows'
+lines 010120200610 020000 020100 020200 020300 020400 020500 020600 020700 020800 020900 020a00 020b00 020b00 >"$work/plan"
+refuses 8 14 000e ' at line 14' 'the free names are not strictly ascending'
+{ eight && lines 11 11 11 11 11 120009; } >"$work/plan"
+refuses 9 15 000f ' at line 15' 'a name is used that has no meaning there'
+lines 10 >"$work/tree"
+for depth in 2 3 4 5 6 7 8 9; do
+    { lines 15 && cat "$work/tree" "$work/tree"; } >"$work/larger"
+    mv "$work/larger" "$work/tree"
+done
+{ lines 010101000002 020000 020100 && head -n 257 "$work/tree"; } >"$work/plan"
+refuses 10 260 0104 ' at line 260' 'this is the 257th node'
+{ lines 010101000000 && repeat 33 11; } >"$work/plan"
+refuses 11 34 0022 ' at line 34' 'this node stands at depth 33'
+{ eight && lines 11; } >"$work/plan"
+refuses 12 11 000b ' after the last line' 'the text ends before the tree is closed'
+{ eight && lines 11 11 11 11 11 11 10 10; } >"$work/plan"
+refuses 13 17 0011 ' at line 17' 'there is more text after the tree has closed'
+
+# One line for each of them.
+expect 'every refusal in one line' 2 "$work/refusals" sh -c "cd '$work' && '$root/sheet' --each 1.plan 2.plan 3.plan 4.plan 5.plan 6.plan \
+    7.plan 8.plan 9.plan 10.plan 11.plan 12.plan 13.plan"
+silent
+
+# Each cause of refusal 2.
+# faulty REASON TEXT: the text is refused 2 at line 2 for that reason; TEXT is a format of printf.
+faulty() {
+    # shellcheck disable=SC2059
+    { lines 010101000000 && printf "$2"; } >"$work/plan"
+    lines 3f020002 refused "The plan is refused at line 2: the line $1 (refusal 2)." >"$work/both"
+    expect "a line that $1" 2 "$work/both" ./sheet --words "$work/plan"
+}
+faulty 'lacks its line feed' 10
+faulty 'is empty' '\n10\n'
+faulty 'has an odd number of characters' '101\n'
+faulty "has a character other than 0-9 a-f ('A', place 2)" '1A\n'
+faulty "has a character other than 0-9 a-f (' ', place 3)" '12 0001 \n'
+faulty "has a character other than 0-9 a-f ('#', place 4) and has an odd number of characters" '120#x\n'
+faulty 'has a character other than 0-9 a-f (code 0d, place 3) and has an odd number of characters' '10\r\n'
+faulty 'has a character other than 0-9 a-f (code c3, place 1)' '\303\251\n'
+faulty 'has a character other than 0-9 a-f (code 00, place 3), has an odd number of characters and lacks its line feed' '10\000'

@@ -1,0 +1,214 @@
+# What ./sheet does around the toolchain and the program, with a false rt and a false run in a clone of their own; read by tests/sheet.sh.
+
+clone=$work/clone
+mkdir "$clone" "$clone/front" "$clone/target" "$clone/target/bin" "$clone/target/log" "$work/bin"
+cp sheet "$clone/sheet"
+cp -R front/Cargo.toml front/Cargo.lock front/src "$clone/front"
+: >"$clone/crates.txt"
+here=$(cd "$clone" && pwd -P)
+
+# The false run has a shell run the program, which a false rt writes; both keep a list of their calls.
+lines '#!/bin/sh' "echo \"\$(pwd -P) \$*\" >>'$work/runs'" 'exec sh "$1"' >"$clone/run"
+lines '#!/bin/sh' "echo \"\$(pwd -P) \$*\" >>'$work/checks'" ". '$work/rt'" >"$work/bin/rt"
+chmod +x "$clone/run" "$work/bin/rt"
+# false_sheet WORD..: the clone's ./sheet, over the false rt.
+false_sheet() {
+    PATH="$work/bin:$PATH" "$clone/sheet" "$@"
+}
+
+# program LINE..: the clone's program is this script. toolchain LINE..: rt is. Both forget their calls.
+program() {
+    lines "$@" >"$clone/target/bin/plan"
+    : >"$work/runs"
+}
+toolchain() {
+    lines "$@" >"$work/rt"
+    : >"$work/checks"
+}
+# printing LINE..: a script that prints these lines.
+printing() {
+    lines "cat <<'END'" "$@" END
+}
+unchanged='rt: plan proved (unchanged since it was last proved)'
+well=$(printing "$unchanged" 'rt: ok, 6 crates proved')
+note='sheet: proving and building the program first, which may take some minutes'
+lines 2f0001 3001 'flow clear' >"$work/clear"
+clear=$(printing 2f0001 3001 'flow clear')
+lines 010101000000 10 >"$work/plan"
+
+# Rt is asked each time, in the clone, and is not heard where nothing is new; the program gets the text.
+toolchain "$well"
+program "cat >'$work/given'" "$clear"
+expect 'nothing new, and a first build where the caller builds elsewhere' 0 "$work/clear" \
+    env PATH="$work/bin:$PATH" CARGO_TARGET_DIR="$work/elsewhere/built" "$clone/sheet" "$work/plan"
+silent
+expect 'nothing new again' 0 "$work/clear" sh -c "cd / && PATH='$work/bin:$PATH' '$clone/sheet' '$work/plan'"
+silent
+lines "$here check plan" "$here check plan" >"$work/both"
+expect 'rt is asked each time' 0 "$work/both" cat "$work/checks"
+lines "$here target/bin/plan" "$here target/bin/plan" >"$work/both"
+expect 'the program is run each time' 0 "$work/both" cat "$work/runs"
+expect 'the program gets the text' 0 "$work/plan" cat "$work/given"
+lines '# nil' ' 01 01 01 00 00 00' '10 # end' >"$work/source"
+expect 'a source' 0 "$work/clear" false_sheet "$work/source"
+expect 'the program gets the plan of a source' 0 "$work/plan" cat "$work/given"
+cp "$work/longer" "$work/text"
+expect 'a long text' 0 "$work/clear" false_sheet --plan "$work/text"
+expect 'the program gets all of a long text' 0 "$work/text" cat "$work/given"
+program "$clear"
+expect 'a program that reads nothing of a long text' 0 "$work/clear" false_sheet --plan "$work/text"
+silent
+
+# A program is as new as its source.
+toolchain "printf '%s\n' 'echo 3f0e0000' 'echo refused' >target/bin/plan" "$(printing "$unchanged" 'rt: plan proved (7 s)' 'rt: ok, 6 crates proved')"
+lines 3f0e0000 refused 'The plan is refused: more rounds are needed than were allowed (refusal 14).' >"$work/both"
+expect 'the new program runs' 2 "$work/both" false_sheet --words "$work/plan"
+says "$note" "$unchanged" 'rt: plan proved (7 s)' 'rt: ok, 6 crates proved'
+program "$clear"
+toolchain "$(printing "$unchanged" 'rt: plan NOT PROVED (exit 1, 3 s)')" 'echo a fault >&2' 'exit 1'
+expect 'a failed proof' 3 "$work/nothing" false_sheet "$work/plan"
+says "$note" "$unchanged" 'rt: plan NOT PROVED (exit 1, 3 s)' 'a fault' \
+    "sheet: the program could not be proved: 'rt check plan' ended with exit status: 1"
+expect 'a failed proof for many' 3 "$work/nothing" false_sheet --each "$work/plan" "$work/plan"
+hints "^sheet: the program could not be proved: 'rt check plan' ended with exit status: 1$"
+expect 'no old program was run' 0 "$work/nothing" cat "$work/runs"
+toolchain "$well" 'exit 2'
+expect 'a toolchain that fails in silence' 3 "$work/nothing" false_sheet "$work/plan"
+says "$note" "$unchanged" 'rt: ok, 6 crates proved' "sheet: the program could not be proved: 'rt check plan' ended with exit status: 2"
+toolchain "$well" 'kill -9 $$'
+expect 'a toolchain that is killed' 3 "$work/nothing" false_sheet "$work/plan"
+hints '^sheet: the program could not be proved: '
+toolchain "$well"
+rm "$clone/target/bin/plan"
+expect 'no program' 3 "$work/nothing" false_sheet "$work/plan"
+says "sheet: $work/plan: target/bin/plan is gone, though it is proved: remove target/ and ask again"
+
+# Rt's lines are shown while it proves: it goes on only when the first was seen.
+program "$clear"
+toolchain 'echo "rt: sets proved (1 s)"' "until [ -e '$work/seen' ] || [ -e '$work/late' ]; do sleep 1; done" "[ -e '$work/seen' ]"
+false_sheet "$work/plan" >"$work/out" 2>"$work/err" &
+asked=$!
+if await grep -q 'rt: sets proved (1 s)' "$work/err"; then : >"$work/seen"; else : >"$work/late"; fi
+wait $asked
+true_that "rt's lines are shown while it proves" [ $? = 0 ]
+toolchain 'sleep 5' "$well"
+expect 'a long silence' 0 "$work/clear" false_sheet "$work/plan"
+says "$note" "$unchanged" 'rt: ok, 6 crates proved'
+
+# One at a time: while rt is at work, no other rt is, and no program; also where the one who asked for it was killed.
+toolchain "mkdir '$work/busy' || echo clash >>'$work/clashes'" 'sleep 1' "rmdir '$work/busy'" "$well"
+program "[ ! -e '$work/busy' ] || echo clash >>'$work/clashes'" 'sleep 1' "[ ! -e '$work/busy' ] || echo clash >>'$work/clashes'" "$clear"
+: >"$work/clashes"
+for number in 1 2 3; do
+    false_sheet "$work/plan" >"$work/out.$number" 2>"$work/err.$number" &
+done
+wait
+expect 'three at once' 0 "$work/nothing" cat "$work/clashes"
+for number in 1 2 3; do
+    expect "number $number of three at once" 0 "$work/clear" cat "$work/out.$number"
+done
+true_that 'one of them waited' grep -q '^sheet: waiting for another ./sheet in this clone$' "$work/err.1" "$work/err.2" "$work/err.3"
+toolchain "mkdir '$work/busy' || echo clash >>'$work/clashes'" ": >'$work/begun'" 'sleep 4' "rmdir '$work/busy'" "$well"
+PATH="$work/bin:$PATH" "$clone/sheet" "$work/plan" >"$work/out" 2>"$work/err" &
+asked=$!
+true_that 'one is at work' await [ -e "$work/begun" ]
+{ kill -9 $asked && wait $asked; } 2>"$work/err"
+expect 'after one that was killed' 0 "$work/clear" false_sheet "$work/plan"
+expect 'after one that was killed, no clash' 0 "$work/nothing" cat "$work/clashes"
+
+# One check for many plans.
+toolchain "$well"
+program "$clear"
+lines "$work/plan: flow clear" "$work/source: flow clear" "$work/plan: flow clear" >"$work/both"
+expect 'many' 0 "$work/both" false_sheet --each "$work/plan" "$work/source" "$work/plan"
+lines "$here check plan" >"$work/both"
+expect 'one check for many' 0 "$work/both" cat "$work/checks"
+
+# A program that fails, and what is no sheet, or none of this plan.
+program "$clear" 'exit 1'
+expect 'a program that fails' 3 "$work/nothing" false_sheet "$work/plan"
+says "sheet: $work/plan: the program failed: exit status: 1"
+lines "$work/plan: trouble: the program failed: exit status: 1" >"$work/both"
+expect 'a program that fails, among many' 3 "$work/both" false_sheet --each "$work/plan"
+program "$clear" 'kill -9 $$'
+expect 'a program that is killed' 3 "$work/nothing" false_sheet "$work/plan"
+hints "^sheet: $work/plan: the program failed: signal: 9"
+# no_sheet LINE..: a program that prints this gives no sheet.
+no_sheet() {
+    program "$(printing "$@")"
+    expect "no sheet: $*" 3 "$work/nothing" false_sheet "$work/plan"
+    says "sheet: $work/plan: the program printed no sheet"
+}
+program ''
+expect 'a program that prints nothing' 3 "$work/nothing" false_sheet "$work/plan"
+says "sheet: $work/plan: the program printed no sheet"
+program "printf '2f0001\n3001\nflow clear'"
+expect 'a sheet without its last line feed' 3 "$work/nothing" false_sheet "$work/plan"
+no_sheet 'flow clear'
+no_sheet refused
+no_sheet 2f0001 200000000002
+no_sheet 2f0001 3001
+no_sheet 2f0001 'flow clear'
+no_sheet 2f0001 300001000001 'flow clear'
+no_sheet 2f0001 3001 'flow breach'
+no_sheet 2f0001 3001 refused
+no_sheet 3f020002 'flow clear'
+no_sheet 2f0001 3001 'flow clear' 'flow clear'
+no_sheet 2f0001 3001 'flow clear '
+no_sheet 2f0001 200000000000 3001 'flow clear'
+no_sheet 2f0001 22000000000001 21000000000001 3001 'flow clear'
+# unfitting OPTION LINE..: a program that prints this gives a sheet of another plan.
+unfitting() {
+    option=$1
+    shift
+    program "$(printing "$@")"
+    expect "a sheet of another plan: $*" 3 "$work/nothing" false_sheet "$option" "$work/plan"
+    says "sheet: $work/plan: the sheet does not fit the plan"
+}
+unfitting --plan 3f090003 refused
+unfitting --plan 3f020002 refused
+lines 010101000000 15 10 >"$work/plan"
+unfitting --words 2f0001 3001 'flow clear'
+program "$(printing 3f630003 refused)"
+lines 3f630003 refused 'The plan is refused at line 3: for a reason that this program does not know (refusal 99).' >"$work/both"
+expect 'an unknown refusal' 2 "$work/both" false_sheet --words "$work/plan"
+
+# A clone that can't be written: rt would go by its old log, and is not asked.
+program "$clear"
+toolchain "$well"
+mkdir "$clone/target/log/plan.out"
+expect 'a log that rt has no right to' 3 "$work/nothing" false_sheet "$work/plan"
+hints "^sheet: this clone can't be written, so nothing is proved in it: target/log: "
+mv "$clone/target" "$clone/kept"
+: >"$clone/target"
+expect 'no folder to write in' 3 "$work/nothing" false_sheet "$work/plan"
+hints "^sheet: this clone can't be written, so nothing is proved in it: target: "
+expect 'rt is not asked in vain' 0 "$work/nothing" cat "$work/checks"
+rm "$clone/target"
+mkdir -p "$work/unbuilt/front"
+cp sheet "$work/unbuilt/sheet"
+cp -R front/Cargo.toml front/Cargo.lock front/src "$work/unbuilt/front"
+: >"$work/unbuilt/front/target"
+expect 'no folder to build in' 3 "$work/nothing" "$work/unbuilt/sheet" "$work/plan"
+hints "^sheet: this clone can't be written: .*/unbuilt/front/target$"
+rm "$work/unbuilt/front/target"
+lines 'fn main() { 1 }' >"$work/unbuilt/front/src/main.rs"
+expect 'a program that can not be built' 3 "$work/nothing" "$work/unbuilt/sheet" "$work/plan"
+hints '^sheet: the program of .*/unbuilt/front could not be built$'
+
+# A new clone has no folder target; a changed front; no rt, and no cargo.
+toolchain 'printf "%s\n" "echo 2f0001" "echo 3001" "echo flow clear" >target/bin/plan' "$well"
+expect 'a new clone' 0 "$work/clear" false_sheet "$work/source"
+sed 's/^version = "1.0.0"$/version = "1.7.0"/' front/Cargo.toml >"$clone/front/Cargo.toml"
+lines 'Hjaltropa 1.7, plan text edition 01' >"$work/both"
+expect 'front is as new as its source' 0 "$work/both" false_sheet --version
+mkdir "$work/tools" "$work/few"
+for tool in sh dirname readlink mkdir cargo; do
+    lines '#!/bin/sh' "exec '$(command -v $tool)' \"\$@\"" >"$work/tools/$tool"
+    chmod +x "$work/tools/$tool"
+    [ $tool = cargo ] || cp "$work/tools/$tool" "$work/few"
+done
+expect 'no rt' 3 "$work/nothing" env PATH="$work/tools" "$clone/sheet" "$work/source"
+says 'sheet: the toolchain is not there: no command rt'
+expect 'no cargo' 3 "$work/nothing" env PATH="$work/few" "$clone/sheet" "$work/source"
+says 'sheet: the toolchain is not there: no command cargo'
