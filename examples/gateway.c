@@ -1,11 +1,16 @@
-/* A gateway in C: prints the sheet of the plan on standard input, after trying buffers of every length from 0 to the sheet's and one more,
-   with bytes around them that have to stay. Exit status 0 if each try was as the header says. */
+/* A gateway in C: prints the sheet of the plan on standard input, after trying buffers of many lengths, with bytes around them that have to stay.
+
+     cc -std=c11 -O2 -o gateway examples/gateway.c target/staticlib/libgateway.a
+     ./gateway [ALLOWANCE]     ALLOWANCE is the rounds allowed, 0 to 65,535; without it, as many as any plan needs
+
+   Exit status 0 if each try was as the header says. */
 #include "gateway.h"
 
 #include <stdio.h>
+#include <stdlib.h>
 #include <string.h>
 
-enum { TEXT = 65536, AROUND = 16, FILL = 0xa5 };
+enum { TEXT = 65536, AROUND = 16, FILL = 0xa5, ALL = 300, NEAR = 8, STEPS = 8 };
 
 static uint8_t text[TEXT];
 static uint8_t whole[HJALTROPA_SHEET];
@@ -21,13 +26,38 @@ static int untouched(const uint8_t *bytes, size_t count) {
     return 1;
 }
 
-int main(void) {
+/* Whether buffers of this length are tried: all for a short sheet, and for a long one those near 0 and near the sheet's length, and some in
+   between. */
+static int worth_trying(size_t room, size_t size) {
+    return size <= ALL || room <= NEAR || size <= room + NEAR || room % (size / STEPS) == 0;
+}
+
+/* The allowance that the words ask for. */
+static uint16_t allowed(int count, char **words) {
+    char *end = NULL;
+    unsigned long number = count < 2 ? HJALTROPA_ROUNDS : strtoul(words[1], &end, 10);
+    if (2 < count || (end != NULL && (end == words[1] || *end != '\0')) || UINT16_MAX < number) {
+        fprintf(stderr, "usage: gateway [ALLOWANCE]\n");
+        exit(2);
+    }
+    return (uint16_t)number;
+}
+
+int main(int count, char **words) {
+    uint16_t allowance = allowed(count, words);
     size_t length = fread(text, 1, TEXT, stdin);
-    size_t size = hjaltropa_sheet(text, length, HJALTROPA_ROUNDS, whole, sizeof whole);
-    for (size_t room = 0; room <= size + 1 && room <= HJALTROPA_SHEET + 1; room++) {
+    size_t size = hjaltropa_sheet(text, length, allowance, whole, sizeof whole);
+    if (ferror(stdin) || sizeof whole < size) {
+        fprintf(stderr, "gateway: the plan can't be read, or its sheet is longer than HJALTROPA_SHEET\n");
+        return 1;
+    }
+    for (size_t room = 0; room <= size + 1; room++) {
+        if (!worth_trying(room, size)) {
+            continue;
+        }
         uint8_t *buffer = tried + AROUND;
         memset(tried, FILL, sizeof tried);
-        size_t answered = hjaltropa_sheet(text, length, HJALTROPA_ROUNDS, buffer, room);
+        size_t answered = hjaltropa_sheet(text, length, allowance, buffer, room);
         size_t written = room < size ? 0 : size;
         size_t behind = sizeof tried - AROUND - written;
         if (answered != size || memcmp(buffer, whole, written) != 0 || !untouched(tried, AROUND) || !untouched(buffer + written, behind)) {
@@ -35,5 +65,5 @@ int main(void) {
             return 1;
         }
     }
-    return fwrite(whole, 1, size, stdout) == size ? 0 : 1;
+    return fwrite(whole, 1, size, stdout) == size && fclose(stdout) == 0 ? 0 : 1;
 }

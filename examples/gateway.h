@@ -1,9 +1,17 @@
-/* The answer sheet of a routing plan, for gateways in C. Link libgateway.a, which `rt staticlib gateway` writes to target/staticlib/. */
+/* The answer sheet of a routing plan, for gateways in C and C++. Link libgateway.a, which `rt staticlib gateway` writes to target/staticlib/:
+
+       cc -std=c11 -O2 -o ask examples/ask.c target/staticlib/libgateway.a
+
+   ask.c asks one plan and prints its verdict, threads.c asks many at once, and gateway.c tries buffers of all lengths. */
 #ifndef HJALTROPA_GATEWAY_H
 #define HJALTROPA_GATEWAY_H
 
 #include <stddef.h>
 #include <stdint.h>
+
+#ifdef __cplusplus
+extern "C" {
+#endif
 
 /* Rounds that suffice for every plan: with this allowance no plan is refused 14. */
 #define HJALTROPA_ROUNDS 17409
@@ -11,9 +19,40 @@
 /* Bytes that suffice for every sheet. */
 #define HJALTROPA_SHEET 8128
 
+/* The longest text in bytes that is not refused 1. Who reads a text keeps a byte more, and hands on what came: then a longer text is refused,
+   and never cut to one that is a plan. */
+#define HJALTROPA_TEXT 16384
+
+/* Bytes of stack that suffice for a call. Measured, not proved: the deepest call in examples/threads.c, a tree of depth 33, took 284,791 with
+   the library optimised for x86-64, as the toolchain compiles it; the rest is margin. What the caller's own functions take comes on top. The
+   main thread and most others have more than that; a thread that is given a small stack has to be given so much. */
+#define HJALTROPA_STACK 393216
+
 /* The length of the sheet of a text, within an allowance of rounds. Where the buffer is as long or longer, the sheet stands at its start
    and nothing past it is changed; where it is shorter, nothing of it is changed. Any text, allowance and length will do; the pointers are
-   not null, and text and buffer don't overlap. Proved for the Rattle function behind it; that this line declares that function is not. */
+   not null, also for a length of 0, and text and buffer don't overlap. Proved for the Rattle function behind it; that this line declares that
+   function is not.
+
+   It may be called from several threads at once, with a buffer for each: it keeps nothing from one call to the next, has no data of its own
+   that changes, and calls nothing but memcpy and memset. */
 size_t hjaltropa_sheet(const uint8_t *text, size_t text_length, uint16_t allowance, uint8_t *buffer, size_t buffer_length);
+
+/* How to read the verdict off a sheet. Each line ends in a line feed. The last line is one of three phrases, and the line before it says more
+   in hexadecimal digits:
+
+       3001           flow clear     no level may send a handle on a channel where a lower level may receive it
+       3000hhggccoo   flow breach    level hh may send handle oo on channel cc, where level gg, which is lower, may receive it
+       3fnnllll       refused        there is no verdict: refusal nn at line llll, which is 0 where no line is at fault
+
+   So a plan is clear exactly if its sheet is in the buffer and ends in the first of them; take nothing else for a yes:
+
+       uint8_t sheet[HJALTROPA_SHEET];
+       size_t size = hjaltropa_sheet(text, length, HJALTROPA_ROUNDS, sheet, sizeof sheet);
+       int clear = 11 <= size && size <= sizeof sheet && memcmp(sheet + size - 11, "flow clear\n", 11) == 0;
+*/
+
+#ifdef __cplusplus
+}
+#endif
 
 #endif

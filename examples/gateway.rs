@@ -1,11 +1,20 @@
 //! A gateway in Rust: prints the sheet of the plan on standard input, after
-//! trying buffers of every length from 0 to the sheet's and one more, with
-//! bytes around them that have to stay.
+//! trying buffers of many lengths, with bytes around them that have to stay.
+//!
+//!     rustc --edition 2021 -O -o gateway examples/gateway.rs \
+//!         -C link-arg=target/staticlib/libgateway.a
+//!     ./gateway [ALLOWANCE]
+//!
+//! The allowance of rounds is 0 to 65,535; without it, as many are allowed as
+//! any plan needs.
 
+use std::env;
 use std::io::{self, Read, Write};
 
 /// Rounds that suffice for every plan.
 const ROUNDS: u16 = 17_409;
+/// Bytes that suffice for every sheet.
+const SHEET: usize = 8_128;
 /// Bytes that are laid around a buffer, and what they are filled with.
 const AROUND: usize = 16;
 const FILL: u8 = 0xa5;
@@ -36,16 +45,27 @@ fn sheet(text: &[u8], allowance: u16, buffer: &mut [u8]) -> usize {
     }
 }
 
+/// Whether buffers of this length are tried: all for a short sheet, and for a
+/// long one those near 0 and near the sheet's length, and some in between.
+fn worth_trying(room: usize, size: usize) -> bool {
+    size <= 300 || room <= 8 || size <= room + 8 || room % (size / 8) == 0
+}
+
 fn main() -> io::Result<()> {
+    let allowance = match env::args().nth(1) {
+        Some(word) => word.parse().expect("usage: gateway [ALLOWANCE]"),
+        None => ROUNDS,
+    };
     let mut text = Vec::new();
     io::stdin().read_to_end(&mut text)?;
-    let size = sheet(&text, ROUNDS, &mut []);
+    let size = sheet(&text, allowance, &mut []);
+    assert!(size <= SHEET, "a sheet of {size} bytes");
     let mut whole = vec![0; size];
-    assert_eq!(sheet(&text, ROUNDS, &mut whole), size);
-    for room in 0..=size + 1 {
+    assert_eq!(sheet(&text, allowance, &mut whole), size);
+    for room in (0..=size + 1).filter(|room| worth_trying(*room, size)) {
         let mut tried = vec![FILL; AROUND + room + AROUND];
         let buffer = &mut tried[AROUND..AROUND + room];
-        assert_eq!(sheet(&text, ROUNDS, buffer), size);
+        assert_eq!(sheet(&text, allowance, buffer), size);
         let written = if room < size { 0 } else { size };
         let mut wanted = vec![FILL; AROUND + room + AROUND];
         wanted[AROUND..AROUND + written].copy_from_slice(&whole[..written]);

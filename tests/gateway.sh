@@ -1,36 +1,356 @@
 #!/bin/sh
-# Builds the gateways of examples/ in C and in Rust over the proved library, and runs them on the examples: each tries buffers of every
-# length and prints the sheet. Run from the root.
-# The library is for x86-64 programs. On another processor the gateway in C is tried if there is a compiler for x86-64, and the one in Rust is
-# not; the last line says what was tried.
+# Builds the callers of examples/ over the proved library and runs them on plans of all kinds, within several allowances of rounds. The sheets
+# that they have to print are those of the second program, and those that are stored. Run from the root.
+# The library is for x86-64 programs. On another processor the callers in C are tried if there is a compiler for x86-64, apart from the one with
+# threads, and those in other languages are not; the last line says what was tried. A compiler that is there has to work.
 set -eu
 work=$(mktemp -d)
 trap 'rm -rf "$work"' EXIT
 
-rt staticlib gateway >"$work/log" 2>&1 || {
-    cat "$work/log"
+fail() {
+    echo "gateway.sh: $1"
     exit 1
 }
+
+# quietly COMMAND..: its words are shown only if it fails, and then the test ends.
+quietly() {
+    "$@" >"$work/log" 2>&1 || {
+        cat "$work/log"
+        fail "this failed: $*"
+    }
+}
+
+# same WHAT ONE OTHER: the two are equal, and not empty.
+same() {
+    [ -n "$2" ] && [ "$2" = "$3" ] || fail "$1: '$2' and '$3'"
+}
+
+# What the callers declare is what the definitions say.
+declared() {
+    sed -n "s/^#define HJALTROPA_$1 \([0-9]*\)\$/\1/p" examples/gateway.h
+}
+declared_in_rust() {
+    sed -n "s/^const $1: u[a-z0-9]* = \([0-9_]*\);\$/\1/p" examples/gateway.rs | tr -d _
+}
+defined() {
+    sed -n "s/^$1 = \([0-9]*\)\$/\1/p" crates/$2
+}
+rounds=$(sed -n 's/^pub const CEILING: u16 = \([0-9]*\);$/\1/p' crates/solving/src/lib.rt)
+same 'the rounds in C' "$(declared ROUNDS)" "$rounds"
+same 'the rounds in Rust' "$(declared_in_rust ROUNDS)" "$rounds"
+same 'the longest sheet in C' "$(declared SHEET)" "$(defined longestSheet sheet/specs/Write.antt)"
+same 'the longest sheet in Rust' "$(declared_in_rust SHEET)" "$(defined longestSheet sheet/specs/Write.antt)"
+same 'the longest text in C' "$(declared TEXT)" "$(defined longest */specs/Limits.antt)"
+grep -qF 'pub extern "C" fn hjaltropa_sheet(text: &[u8], allowance: u16, buffer: &mut [u8]) -> usize' crates/gateway/src/lib.rt ||
+    fail 'the function has other parameters than the callers declare'
+grep -qxF 'size_t hjaltropa_sheet(const uint8_t *text, size_t text_length, uint16_t allowance, uint8_t *buffer, size_t buffer_length);' \
+    examples/gateway.h || fail 'the declaration in C is another'
+tr -d ' \n' <examples/gateway.rs |
+    grep -qF 'fnhjaltropa_sheet(text:*constu8,text_length:usize,allowance:u16,buffer:*mutu8,buffer_length:usize,)->usize;' ||
+    fail 'the declaration in Rust is another'
+
+quietly rt staticlib gateway
 library=target/staticlib/libgateway.a
-gateways='in_c in_rust' compiler=cc
-if [ "$(uname -m)" != x86_64 ]; then
-    gateways=in_c compiler=x86_64-linux-gnu-gcc
+quietly cargo build --release --offline --manifest-path second/Cargo.toml
+second=second/target/release/second
+
+machine=$(uname -m)
+compiler=cc tools=
+if [ "$machine" != x86_64 ]; then
+    compiler=x86_64-linux-gnu-gcc tools=x86_64-linux-gnu-
     command -v $compiler >/dev/null || {
         echo 'gateway.sh: no gateway was tried: the library is for x86-64 programs, and there is no compiler for them here'
         exit 0
     }
 fi
 
-printf '010101000000\n10' >"$work/refused.plan"
-printf '3f020002\nrefused\n' >"$work/refused.sheet"
-for gateway in $gateways; do
-    case $gateway in
-        in_c) $compiler -std=c11 -O2 -Wall -Wextra -Werror -o "$work/in_c" examples/gateway.c "$library" ;;
-        in_rust) rustc --edition 2021 -O -o "$work/in_rust" examples/gateway.rs -C link-arg="$library" ;;
+# Several threads may call it: it has no data that can be written, and calls nothing that has.
+quietly "${tools}size" "$library"
+state=$(awk 'NR > 1 { data += $2; bss += $3; objects++ } END { print (objects ? data + bss : "no object") }' "$work/log")
+same 'bytes of data that can be written' "$state" 0
+quietly "${tools}nm" "$library"
+same 'what the library gives' "$(sed -n 's/.* T //p' "$work/log")" hjaltropa_sheet
+foreign=$(awk '$1 == "U" && $2 !~ /^(memcpy|memset)$/ { print $2 }' "$work/log")
+[ -z "$foreign" ] || fail "the library calls $foreign"
+
+# build NAME WORDS..: builds a program in C from these sources and flags.
+flags='-O2 -Wall -Wextra -Werror -pedantic -Iexamples'
+build() {
+    name=$1
+    shift
+    quietly $compiler -std=c11 $flags -o "$work/$name" "$@" "$library"
+}
+
+# The header stands for itself, declares what the function takes, and its lines for reading a verdict tell a yes from the rest.
+{
+    echo '#include "gateway.h"'
+    echo '#include "gateway.h"'
+    echo '#include <stdio.h>'
+    echo '#include <string.h>'
+    echo 'static int is_clear(const uint8_t *text, size_t length) {'
+    sed -n 's/^       \(.*;\)$/\1/p' examples/gateway.h
+    echo 'return clear; }'
+    echo 'int main(void) {'
+    echo 'size_t (*declared)(const uint8_t *, size_t, uint16_t, uint8_t *, size_t) = hjaltropa_sheet;'
+    echo 'static uint8_t text[HJALTROPA_TEXT + 1];'
+    echo 'size_t length = fread(text, 1, sizeof text, stdin);'
+    echo 'return declared != NULL && is_clear(text, length) ? 0 : 1; }'
+} >"$work/header.c"
+cp "$work/header.c" "$work/header.cpp"
+build header_in_c "$work/header.c"
+headers=header_in_c
+cpp='not tried'
+if [ "$machine" = x86_64 ]; then
+    for plus in c++ g++ clang++; do
+        if command -v $plus >/dev/null; then
+            quietly $plus -std=c++17 $flags -o "$work/header_in_cpp" "$work/header.cpp" "$library"
+            headers='header_in_c header_in_cpp'
+            cpp=tried
+            break
+        fi
+    done
+fi
+
+build in_c examples/gateway.c
+build ask examples/ask.c
+gateways=in_c
+if [ "$machine" = x86_64 ]; then
+    quietly rustc --edition 2021 -O -o "$work/in_rust" examples/gateway.rs -C link-arg="$library"
+    gateways='in_c in_rust'
+fi
+
+# The plans. P1, P2, P6 and P10 are document 01's.
+plan() {
+    name=$1
+    shift
+    printf '%s\n' "$@" >"$work/$name.plan"
+}
+# each FROM TO FORMAT: the lines of the format for every number from the one to the other, which it may show twice.
+each() {
+    awk -v from="$1" -v to="$2" -v format="$3" 'BEGIN { for (i = from; i <= to; i++) printf format "\n", i, i }'
+}
+# A tree of parallel nodes that is so deep, whole.
+parallel() {
+    if [ "$1" = 1 ]; then
+        echo 10
+    else
+        echo 15
+        parallel $(($1 - 1))
+        parallel $(($1 - 1))
+    fi
+}
+# P1 with zeros behind it, so many bytes in all.
+plan_and_zeros() {
+    { cat "$work/P1.plan" && printf "%0$(($2 - 16))d" 0; } >"$work/$1.plan"
+}
+plan P1 010101000000 10
+plan P2 010102010102 020000 020101 15 1901 120001 10 1900 13000200 10
+plan P6 010103040203 020000 020101 020202 18 15 1900 120001 120001 120102 10 15 1901 13000300 120303 10 1902 13000401 13040502 14 170405 \
+    120400 10 13040603 10
+: >"$work/P10.plan"
+printf '010101000000\n10' >"$work/unended.plan"
+plan closed 010101000000 10 10
+cp examples/keeps.plan examples/breaks.plan second/tests/plans/relay.plan "$work"
+# Every set non-empty, and a breach: no sheet is longer. All channels are sent on channel 0, all binders receive there, and each level sends and
+# receives on what the last of them got.
+{
+    echo 010120200620
+    each 0 31 '02%02x%02x'
+    echo 15
+    echo 15
+    each 0 15 '1200%02x'
+    echo 10
+    each 16 31 '1200%02x'
+    echo 10
+    echo 15
+    each 0 15 '130020%02x'
+    echo 10
+    each 16 31 '130020%02x'
+    each 0 5 '15\n19%02x\n122020\n13202100\n10'
+    each 6 6 '19%02x\n122020\n13202100\n10'
+} >"$work/longest.plan"
+# The deepest readings: 64 free names, and trees of depth 32 and 33.
+{ echo 010101000040 && each 0 63 '02%02x00'; } >"$work/names.plan"
+{ cat "$work/names.plan" && each 1 31 11 && echo 10; } >"$work/deep.plan"
+{ cat "$work/names.plan" && each 1 32 15 && echo 10; } >"$work/deeper.plan"
+{ echo 010101000000 && echo 11 && parallel 8; } >"$work/most_nodes.plan"
+{ echo 010101000000 && echo 11 && echo 11 && parallel 8; } >"$work/more_nodes.plan"
+plan_and_zeros longest_text 16384
+plan_and_zeros longer_text 16385
+plan_and_zeros long_text 100000
+answered='P1 P2 P6 keeps breaks relay longest deep most_nodes'
+refused='P10 unended closed names deeper more_nodes longest_text longer_text long_text'
+
+# The second program's sheets are those that are known, and the plans are what they are meant to be.
+for name in $answered $refused; do
+    "$second" sheet <"$work/$name.plan" >"$work/$name.sheet"
+done
+for known in examples/keeps examples/breaks second/tests/plans/relay; do
+    cmp "$known.sheet" "$work/$(basename $known).sheet"
+done
+# first NAME LINE: the sheet's first line.
+first() {
+    same "the sheet of $1" "$(head -n 1 "$work/$1.sheet")" "$2"
+}
+first P1 2f0001
+first P2 2f0004
+first P6 2f000a
+first relay 2f0c01
+first P10 3f010000
+first unended 3f020002
+first closed 3f0d0003
+first names 3f0c0042
+first deeper 3f0b0062
+first more_nodes 3f0a0102
+first longest_text 3f0d0003
+first longer_text 3f010000
+first long_text 3f010000
+same 'the length of the longest sheet' "$(wc -c <"$work/longest.sheet" | tr -d ' ')" "$(declared SHEET)"
+
+# Buffers of all lengths, within no allowance, one round too few, just enough, and plenty; and the verdict.
+asked=0
+for name in $answered $refused; do
+    allowances='none 0 1 17409 65535'
+    case $(head -n 1 "$work/$name.sheet") in
+        2f*)
+            count=$(printf '%d' "0x$(head -n 1 "$work/$name.sheet" | cut -c 3-6)")
+            allowances="none 0 $((count - 1)) $count 17409 65535"
+            ;;
+        *) count=0 ;;
     esac
-    for plan in examples/keeps examples/breaks "$work/refused"; do
-        ./run "$work/$gateway" <"$plan.plan" >"$work/out"
-        cmp "$work/out" "$plan.sheet"
+    for allowance in $allowances; do
+        words=${allowance#none}
+        "$second" sheet $words <"$work/$name.plan" >"$work/wanted"
+        if [ -n "$words" ] && [ "$words" -lt "$count" ]; then
+            same "$name within $words rounds" "$(head -n 1 "$work/wanted")" 3f0e0000
+        else
+            cmp "$work/wanted" "$work/$name.sheet"
+        fi
+        for gateway in $gateways; do
+            ./run "$work/$gateway" $words <"$work/$name.plan" >"$work/out" || fail "$name, allowance $allowance: $gateway failed"
+            cmp "$work/out" "$work/wanted" || fail "$name, allowance $allowance: $gateway printed another sheet"
+            asked=$((asked + 1))
+        done
+    done
+    case $(tail -n 1 "$work/$name.sheet") in
+        'flow clear') wanted=0 ;;
+        'flow breach') wanted=1 ;;
+        *) wanted=2 ;;
+    esac
+    status=0
+    ./run "$work/ask" "$work/$name.plan" >"$work/out" || status=$?
+    same "the status of ask on $name" $status $wanted
+    same "the phrase of ask on $name" "$(sed 's/:.*//' "$work/out")" "$(tail -n 1 "$work/$name.sheet")"
+    for header in $headers; do
+        status=0
+        ./run "$work/$header" <"$work/$name.plan" || status=$?
+        same "a yes for $name, in the header's words, $header" $status $((wanted > 0))
     done
 done
-echo "gateway.sh: 3 plans were answered, with buffers of every length: $gateways"
+
+# asks STATUS LINE WORDS..: ask, with these words and the standard input at hand, exits so and prints the line; in trouble it prints none, and one
+# line on standard error.
+asks() {
+    wanted=$1 line=$2
+    shift 2
+    status=0
+    ./run "$work/ask" "$@" >"$work/out" 2>"$work/err" || status=$?
+    same "the status of ask $*" $status $wanted
+    [ "$(cat "$work/out")" = "$line" ] || fail "ask $* printed: $(cat "$work/out")"
+    same "the lines of ask $*" "$(cat "$work/out" "$work/err" | wc -l | tr -d ' ')" 1
+}
+asks 0 'flow clear' examples/keeps.plan
+asks 1 'flow breach: level 1 may send handle 2 on channel 1, where level 0 may receive it' - <examples/breaks.plan
+{ head -n 3 examples/keeps.plan && sleep 1 && tail -n +4 examples/keeps.plan; } | asks 0 'flow clear'
+asks 2 'refused: number 11, line 98' "$work/deeper.plan"
+asks 2 'refused: number 13, line 3' "$work/longest_text.plan"
+asks 2 'refused: number 1, line 0' "$work/longer_text.plan"
+asks 3 '' "$work/none"
+asks 3 '' "$work"
+asks 3 '' examples/keeps.plan examples/breaks.plan
+asks 3 '' - <"$work"
+if [ -e /dev/full ]; then
+    status=0
+    ./run "$work/ask" examples/keeps.plan >/dev/full 2>"$work/err" || status=$?
+    same 'the status of ask where it can'\''t print' $status 3
+fi
+
+# Each gateway finds each fault of a library: the variable FAULT says what is done wrong after, or in, the proved call.
+cat >"$work/faults.c" <<'END'
+#include "gateway.h"
+#include <stdlib.h>
+#include <string.h>
+size_t __real_hjaltropa_sheet(const uint8_t *text, size_t text_length, uint16_t allowance, uint8_t *buffer, size_t buffer_length);
+size_t __wrap_hjaltropa_sheet(const uint8_t *text, size_t text_length, uint16_t allowance, uint8_t *buffer, size_t buffer_length);
+size_t __wrap_hjaltropa_sheet(const uint8_t *text, size_t text_length, uint16_t allowance, uint8_t *buffer, size_t buffer_length) {
+    const char *fault = getenv("FAULT");
+    if (fault != NULL && strcmp(fault, "allowance") == 0) {
+        allowance = HJALTROPA_ROUNDS;
+    }
+    size_t size = __real_hjaltropa_sheet(text, text_length, allowance, buffer, buffer_length);
+    if (fault == NULL) {
+        return size;
+    }
+    if (strcmp(fault, "before") == 0 && 0 < buffer_length) {
+        buffer[-1] = 0;
+    } else if (strcmp(fault, "behind") == 0 && size < buffer_length) {
+        buffer[size] = 0;
+    } else if (strcmp(fault, "outside") == 0 && size == buffer_length) {
+        buffer[size] = 0;
+    } else if (strcmp(fault, "short") == 0 && buffer_length + 1 == size) {
+        buffer[buffer_length / 2] = '0';
+    } else if (strcmp(fault, "unwritten") == 0 && size == buffer_length) {
+        memset(buffer, 0xa5, size);
+    } else if (strcmp(fault, "cut") == 0 && buffer_length < size) {
+        return buffer_length;
+    } else if (strcmp(fault, "byte") == 0 && size <= buffer_length) {
+        buffer[size - 2] = 'k';
+    } else if (strcmp(fault, "over") == 0 && size <= buffer_length) {
+        return size - 1;
+    }
+    return size;
+}
+END
+quietly $compiler -std=c11 $flags -c -o "$work/faults.o" "$work/faults.c"
+build faulty_in_c examples/gateway.c "$work/faults.o" -Wl,--wrap=hjaltropa_sheet
+[ "$gateways" = in_c ] || quietly rustc --edition 2021 -O -o "$work/faulty_in_rust" examples/gateway.rs -C link-arg="$work/faults.o" \
+    -C link-arg="$library" -C link-arg=-Wl,--wrap=hjaltropa_sheet
+for gateway in $gateways; do
+    for name in P2 longest; do
+        for fault in none before behind outside short unwritten cut byte over allowance; do
+            words=
+            [ $fault != allowance ] || words=1
+            "$second" sheet $words <"$work/$name.plan" >"$work/wanted"
+            found=yes
+            if FAULT=$fault ./run "$work/faulty_$gateway" $words <"$work/$name.plan" >"$work/out" 2>"$work/err"; then
+                ! cmp -s "$work/out" "$work/wanted" || found=no
+            fi
+            case $fault-$found in
+                none-yes) fail "$gateway finds a fault where there is none" ;;
+                none-no) ;;
+                *-no) fail "$gateway does not find the fault '$fault' on $name" ;;
+            esac
+        done
+    done
+done
+
+# Several threads, each with the stack that the header asks for.
+threads='not tried'
+if [ "$machine" = x86_64 ]; then
+    build threads -pthread examples/threads.c
+    set --
+    for name in $answered $refused; do
+        set -- "$@" "$work/$name.plan"
+        cat "$work/$name.sheet"
+    done >"$work/wanted"
+    status=0
+    ./run "$work/threads" "$@" >"$work/out" 2>"$work/err" || status=$?
+    [ $status = 0 ] || {
+        cat "$work/err"
+        fail "threads ended with status $status; above 128, a thread needs more stack than HJALTROPA_STACK"
+    }
+    cmp "$work/out" "$work/wanted"
+    threads="tried, and $(sed -n 's/^threads: //p' "$work/err")"
+fi
+
+echo "gateway.sh: $asked sheets were as wanted: $gateways; C++: $cpp; threads: $threads"
