@@ -1,0 +1,403 @@
+#!/bin/sh
+# Holds the pages against the program and the definitions: every example of docs/PLAN.md and docs/ANALYSIS.md byte for byte, the tables of frames,
+# limits, refusals and edges, the tables of rounds, the definitions that are cited, README's tables of sheet lines, and the examples against
+# their sources. Run from the root, with target/bin/plan built; an example with an allowance of its own goes through target/bin/batch.
+set -u
+LC_ALL=C
+export LC_ALL
+work=$(mktemp -d)
+trap 'rm -rf "$work"' EXIT
+passed=0
+failed=0
+
+held() {
+    passed=$((passed + 1))
+}
+
+fault() {
+    failed=$((failed + 1))
+    echo "pages.sh: $*"
+}
+
+# hold WHY COMMAND..: the command succeeds; otherwise this is why not.
+hold() {
+    why_not=$1
+    shift
+    if "$@"; then held; else fault "$why_not"; fi
+}
+
+finish() {
+    echo "pages.sh: $passed held, $failed did not"
+    [ $failed = 0 ]
+    exit
+}
+
+# tell FILE: what an awk program below said, one line each: `held`, or `fault` and why.
+tell() {
+    while read -r word why; do
+        case $word in
+            held) held ;;
+            *) fault "$why" ;;
+        esac
+    done <"$1"
+}
+
+# answer TEXT ALLOWANCE: the sheet that the program prints, with `-` as the allowance for that of plan.
+answer() {
+    if [ "$2" = - ]; then
+        ./run target/bin/plan <"$1"
+    else
+        {
+            printf '%08x%08x\n' $(($(wc -c <"$1"))) "$2"
+            cat "$1"
+        } | ./run target/bin/batch
+    fi
+}
+
+# same NAME WANTED GOT: two files are the same, byte for byte.
+same() {
+    if cmp -s "$2" "$3"; then
+        held
+    else
+        fault "$1; wanted, and got:"
+        cat "$2" "$3"
+    fi
+}
+
+# section PAGE HEADING: the lines under a heading, up to the next of its rank or a higher one.
+section() {
+    awk -v heading="$2" '
+        /^```/ { block = !block }
+        !block && /^#+ / { rank = index($0, " "); if (on && rank <= own) on = 0; if ($0 == heading) { on = 1; own = rank; next } }
+        on' "$1"
+}
+
+[ -x target/bin/plan ] || {
+    fault 'target/bin/plan is not built'
+    finish
+}
+
+# ---- the examples
+
+# The functions that write a text to a file: a line as it is, or the frames on it one a line, and `A B x N` N times over.
+spell='
+    function write_line(line) { if (many++) printf "%s", ending > file; printf "%s", line > file }
+    function spell_line(line, counted,   times, count, i, frame) {
+        if (!counted) { write_line(line); return }
+        times = 1
+        if (match(line, / x [0-9]+$/)) { times = substr(line, RSTART + 3) + 0; line = substr(line, 1, RSTART - 1) }
+        count = split(line, frame, " ")
+        for (; times > 0; times--) for (i = 1; i <= count; i++) write_line(frame[i])
+    }
+    function begin_text(name, end) { file = name; ending = end; many = 0; printf "" > file }
+    function end_text(unended) { if (many && !unended) printf "%s", ending > file; close(file) }'
+
+# pairs PAGE: each pair as NAME.N.text and NAME.N.sheet in the work folder, and a line of NAME.index for it: N, the line, the allowance, the heading.
+pairs() {
+    awk -v to="$work/$1" "$spell"'
+        function bad(why) { print "fault", FILENAME ":" start ": " why > (to ".said") }
+        function block(   word, words, i, option) {
+            words = split(info, word, " ")
+            if (word[1] == "text") return
+            if (word[1] == "sheet") {
+                if (!pending) { bad("a sheet without its plan"); return }
+                begin_text(to "." pending ".sheet", "\n")
+                for (i = 1; i <= size; i++) spell_line(body[i], 0)
+                end_text(0)
+                print pending, place, allowance, heading > (to ".index")
+                pending = 0
+                return
+            }
+            if (word[1] != "plan") { bad("a block that is no plan, sheet or text: " info); return }
+            if (pending) bad("no sheet for the plan at line " place)
+            pending = ++number; place = start; allowance = "-"
+            for (i in option) delete option[i]
+            for (i = 2; i <= words; i++) {
+                if (word[i] == "allowance" && word[i + 1] ~ /^[0-9]+$/) allowance = word[++i]
+                else if (word[i] ~ /^(counted|unended|crlf)$/) option[word[i]] = 1
+                else bad("a word that this test does not know: " word[i])
+            }
+            begin_text(to "." pending ".text", "crlf" in option ? "\r\n" : "\n")
+            for (i = 1; i <= size; i++) spell_line(body[i], "counted" in option)
+            end_text("unended" in option)
+        }
+        BEGIN { printf "" > (to ".said"); printf "" > (to ".index") }
+        !inside && /^```/ { inside = 1; info = substr($0, 4); size = 0; start = FNR; next }
+        inside && $0 == "```" { inside = 0; block(); next }
+        inside { body[++size] = $0; next }
+        /^#+ / { heading = $0 }
+        END {
+            if (inside) bad("a block that does not end")
+            if (pending) bad("no sheet for the plan at line " place)
+        }' "docs/$1.md"
+    tell "$work/$1.said"
+}
+
+for page in PLAN ANALYSIS; do
+    pairs $page
+    while read -r number line allowance heading; do
+        if [ "$allowance" != - ] && [ ! -x target/bin/batch ]; then
+            echo "pages.sh: docs/$page.md:$line: not tried: target/bin/batch is not built"
+            continue
+        fi
+        answer "$work/$page.$number.text" "$allowance" >"$work/out"
+        same "docs/$page.md:$line: the program prints another sheet" "$work/$page.$number.sheet" "$work/out"
+    done <"$work/$page.index"
+    # The page says how many it holds, so that none can get lost.
+    said=$(sed -n 's/.*\*\*\([0-9]*\) examples\*\*.*/\1/p' docs/$page.md)
+    there=$(($(wc -l <"$work/$page.index")))
+    hold "docs/$page.md has no examples" [ $there != 0 ]
+    hold "docs/$page.md has $there examples, and says that it holds '$said'" [ "$said" = $there ]
+done
+
+# ---- the table of frames, against the definitions
+
+# definitions NAME: the one file of that name that holds definitions.
+definitions() {
+    find crates -name "$1" ! -path '*/proofs/*' ! -path '*/must-fail/*'
+}
+
+frames=$(definitions Frames.antt)
+if [ -f "$frames" ]; then
+    sed -n 's/.*row 0x\([0-9a-f][0-9a-f]\) .*[^0-9]\([0-9][0-9]*\) *$/\1 \2/p' "$frames" >"$work/frames"
+    section docs/PLAN.md '## The frames' | sed -n 's/^| `\([0-9a-f][0-9a-f]\)` | \([0-9][0-9]*\) |.*/\1 \2/p' >"$work/rows"
+    hold 'there are no frames in Frames.antt' [ -s "$work/frames" ]
+    same 'docs/PLAN.md: the table of frames is not that of Frames.antt (first byte, bytes in all)' "$work/frames" "$work/rows"
+else
+    fault "there is not one file Frames.antt: $frames"
+fi
+
+# ---- the table of limits
+
+limits=$(definitions Limits.antt)
+section docs/PLAN.md '## The limits' | awk -F '|' '
+    /^\| .*`/ { number = $3; gsub(/[ ,]/, "", number); split($4, part, "`"); crate = part[3]; gsub(/[ ()]/, "", crate); print part[2], number, crate }' >"$work/limits"
+if [ -f "$limits" ]; then
+    sed -n 's/^\([A-Za-z]*\) = \([0-9][0-9]*\)$/\1 \2/p' "$limits" >"$work/stated"
+    hold 'there are no limits in Limits.antt' [ -s "$work/stated" ]
+    while read -r name number; do
+        hold "docs/PLAN.md: no row of the limits says that $name is $number" grep -q "^$name $number " "$work/limits"
+    done <"$work/stated"
+else
+    fault "there is not one file Limits.antt: $limits"
+fi
+while read -r name number crate; do
+    find "crates/$crate" -name '*.antt' -exec grep -hx "$name = $number" {} + >"$work/out" 2>/dev/null
+    hold "docs/PLAN.md: no definition of $crate says that $name is $number" [ -s "$work/out" ]
+done <"$work/limits"
+
+# ---- an example of every node
+
+section docs/PLAN.md '## The frames' | sed -n 's/^| `\([0-9a-f][0-9a-f]\)` |.*| tree |.*/\1/p' >"$work/nodes"
+hold 'docs/PLAN.md: there are no nodes in the table of frames' [ -s "$work/nodes" ]
+while read -r node; do
+    found=no
+    while read -r number line allowance heading; do
+        case $heading in
+            '### '*"(\`$node\`)") grep -q "^$node" "$work/PLAN.$number.text" && found=yes ;;
+        esac
+    done <"$work/PLAN.index"
+    hold "docs/PLAN.md: no example of the node $node under a heading of its own" [ $found = yes ]
+done <"$work/nodes"
+
+# ---- a row for every refusal, and an example of each that reading gives
+
+section docs/PLAN.md '## Refusals' | sed -n 's/^| \([0-9][0-9]*\) | .* | \([a-z ]*\) |$/\1 \2/p' >"$work/refusals"
+sed 's/ .*//' "$work/refusals" >"$work/numbers"
+sort -nu "$work/numbers" >"$work/sorted"
+same 'docs/PLAN.md: the refusals do not stand in order, each once' "$work/sorted" "$work/numbers"
+for number in 1 2 3 4 5 6 7 8 9 10 11 12 13; do
+    hold "docs/PLAN.md: no row for refusal $number, given by reading" grep -qx "$number reading" "$work/refusals"
+done
+for number in 14 15; do
+    hold "docs/PLAN.md: no row for refusal $number" grep -qx "$number" "$work/numbers"
+done
+while read -r refusal giver; do
+    [ "$giver" = reading ] || continue
+    found=no
+    while read -r number line allowance heading; do
+        case $heading in
+            "### Refusal $refusal:"*)
+                head -n 1 "$work/PLAN.$number.sheet" | grep -q "^3f$(printf '%02x' "$refusal")" && found=yes
+                ;;
+        esac
+    done <"$work/PLAN.index"
+    hold "docs/PLAN.md: no example of refusal $refusal under its heading" [ $found = yes ]
+done <"$work/refusals"
+
+# ---- the edges: a text and the first line of its sheet
+
+section docs/PLAN.md '### Edges' | awk -v to="$work/edge" "$spell"'
+    BEGIN { printf "" > (to ".index") }
+    /^\| `/ {
+        split($0, part, "`")
+        lines = split(part[2], line, " / ")
+        begin_text(to "." ++number ".text", "\n")
+        for (i = 1; i <= lines; i++) spell_line(line[i], 1)
+        end_text(0)
+        print number, part[4], part[2] > (to ".index")
+    }'
+hold 'docs/PLAN.md: there are no edges' [ -s "$work/edge.index" ]
+while read -r number wanted text; do
+    got=$(answer "$work/edge.$number.text" - | head -n 1)
+    hold "docs/PLAN.md: the sheet of the edge $text begins with $got and not with $wanted" [ "$got" = "$wanted" ]
+done <"$work/edge.index"
+
+# ---- the tables of rounds, against the sheet in front of them: as many rows as rounds, and together they add just the sheet's sets
+
+awk '
+    function bad(why) { print "fault", FILENAME ":" FNR ": " why; right = 0 }
+    function value(digits,   i, n) { n = 0; for (i = 1; i <= length(digits); i++) n = n * 16 + index("0123456789abcdef", substr(digits, i, 1)) - 1; return n }
+    function put(key, member) {
+        if ((key, member) in has) bad("a round adds what was there: " key " " member)
+        has[key, member] = 1
+        set[key] += 2 ^ member
+    }
+    function row(   cell, items, item, part, i, level) {
+        split($0, cell, "|")
+        if (cell[2] + 0 != ++rows) bad("round " rows " is missing")
+        items = split(cell[3], item, ";")
+        for (i = 1; i <= items; i++) {
+            gsub(/ /, "", item[i])
+            if (item[i] ~ /^(in|out)\([#0-9]+,[0-9]+\)gets[0-9]+$/) {
+                split(item[i], part, /[(,)]|gets/)
+                level = part[2] == "#" ? 7 : part[2]
+                put(sprintf("%s%02x%02x", part[1] == "in" ? "21" : "22", level, part[3]), part[5])
+            } else if (item[i] ~ /^binder[0-9]+gets[0-9]+$/) {
+                split(item[i], part, /binder|gets/)
+                put(sprintf("20%02x", part[2]), part[3])
+            } else if (item[i] == "nothing") quiet = rows
+            else bad("no addition of a round: " item[i])
+        }
+    }
+    function check(   i, key, sets, many) {
+        if (rows != value(substr(sheet[1], 3))) bad(rows " rounds, and the sheet says " sheet[1])
+        if (quiet != rows) bad("the last round, and no other, adds nothing")
+        for (i = 2; i <= lines; i++) if (sheet[i] ~ /^2[012]/) {
+            sets++
+            key = substr(sheet[i], 1, length(sheet[i]) - 8)
+            if (!(key in set) || set[key] != value(substr(sheet[i], length(sheet[i]) - 7))) bad("the rounds do not come to the line " sheet[i])
+        }
+        for (key in set) many++
+        if (many != sets) bad("the rounds fill " many " sets, and the sheet has " sets)
+        if (right) print "held"
+        tables++
+    }
+    /^```/ { block = !block; if ($0 == "```sheet") { reading = 1; lines = 0 } else reading = 0; next }
+    block { if (reading) sheet[++lines] = $0; next }
+    /^\| round \|/ { on = 1; right = 1; rows = 0; quiet = 0; for (k in set) delete set[k]; for (k in has) delete has[k]; next }
+    on && /^\| [0-9]/ { row(); next }
+    on && !/^\|/ { on = 0; check() }
+    END { if (!tables) print "fault", FILENAME ": no table of rounds" }' docs/ANALYSIS.md >"$work/said"
+tell "$work/said"
+
+# ---- the definitions that the pages cite, as `name` (crate)
+
+for page in PLAN ANALYSIS; do
+    awk '
+        /^```/ { block = !block; next }
+        !block { text = text " " $0 }
+        END {
+            gsub(/  +/, " ", text)
+            while (match(text, /(`[A-Za-z][A-Za-z0-9-]*`(, | and )?)+ \([a-z]+\)/)) {
+                cited = substr(text, RSTART, RLENGTH)
+                text = substr(text, RSTART + RLENGTH)
+                crate = cited
+                sub(/.*\(/, "", crate)
+                sub(/\)/, "", crate)
+                names = split(cited, name, "`")
+                for (i = 2; i < names; i += 2) print crate, name[i]
+            }
+        }' docs/$page.md | sort -u >"$work/cited"
+    some=no
+    while read -r crate name; do
+        [ -d "crates/$crate" ] || continue
+        some=yes
+        find "crates/$crate" -name '*.antt' -exec grep -hE "^ *((abbrev|unfoldable|pub|record|data) )*$name( |\$)" {} + >"$work/out"
+        hold "docs/$page.md: $name ($crate) is not defined there" [ -s "$work/out" ]
+    done <"$work/cited"
+    hold "docs/$page.md cites no definition" [ $some = yes ]
+done
+
+# ---- the examples: the plan is its source without remarks, and the sheet is what the program prints
+
+some=no
+for source in examples/*.source; do
+    name=${source%.source}
+    [ -f "$source" ] || continue
+    some=yes
+    tr -d '\r' <"$source" | sed 's/#.*//; s/[[:blank:]]//g; /^$/d' | tr 'A-F' 'a-f' >"$work/out"
+    same "$name.plan is not its source" "$name.plan" "$work/out"
+done
+hold 'there are no sources in examples' [ $some = yes ]
+for plan in examples/*.plan; do
+    name=${plan%.plan}
+    hold "$plan has no source" [ -f "$name.source" ]
+    answer "$plan" - >"$work/$(basename "$name").sheet"
+    same "$name.sheet is not what the program prints" "$name.sheet" "$work/$(basename "$name").sheet"
+done
+
+# ---- README's tables: behind a command ./sheet --words on an example, before the next heading; each row's first cell names lines of its sheet, in
+# order, or the beginning of some, as `2107..`, with or without their number
+
+for sheets in examples "$work"; do
+    awk -v sheets="$sheets" '
+        function bad(why) { print "fault", FILENAME ":" FNR ": " why; right = 0 }
+        function load(   file, line) {
+            file = sheets "/" example ".sheet"
+            lines = 0
+            while ((getline line < file) > 0) sheet[++lines] = line
+            close(file)
+            if (!lines) bad("no sheet for " example)
+            at = 0
+        }
+        # a number in words or digits, and 0 where there is none
+        function number_in(words,   n, i, count) {
+            if (match(words, /[0-9]+/)) return substr(words, RSTART, RLENGTH) + 0
+            count = split("one two three four five six seven eight nine ten eleven twelve", n, " ")
+            for (i = 1; i <= count; i++) if (index(" " words " ", " " n[i] " ")) return i
+            return 0
+        }
+        function several(beginning, words,   wanted, many) {
+            wanted = number_in(words)
+            while (at < lines && index(sheet[at + 1], beginning) != 1) at++
+            while (at < lines && index(sheet[at + 1], beginning) == 1) { at++; many++ }
+            if (!many || (wanted && many != wanted)) bad("lines " beginning ".. of " example ": " many + 0 ", or out of order")
+        }
+        function one(line,   i) {
+            for (i = at + 1; i <= lines; i++) if (sheet[i] == line) { at = i; return }
+            bad("no line " line " in the sheet of " example ", or out of order")
+        }
+        function row(   cell, parts, part, i, words) {
+            right = 1
+            split($0, cell, "|")
+            parts = split(cell[2], part, "`")
+            for (i = 2; i < parts; i += 2) {
+                if (part[i] ~ /^[0-9a-f]+(\.\.+|\342\200\246)$/) {
+                    sub(/[^0-9a-f].*/, "", part[i])
+                    words = part[i + 1]
+                    gsub(/[^a-z0-9]/, " ", words)
+                    several(part[i], words)
+                } else one(part[i])
+            }
+            if (parts > 2 && right) print "held"
+        }
+        match($0, /\.\/sheet( --[a-z]+)* --words( --[a-z]+)* examples\/[A-Za-z0-9_-]+\.(plan|source)/) {
+            example = substr($0, RSTART, RLENGTH)
+            sub(/.*examples\//, "", example)
+            sub(/\..*/, "", example)
+            wanted[example] = armed = 1
+            next
+        }
+        /^#/ { armed = 0 }
+        armed && /^\|/ && !on { on = 1; load(); tabled[example] = 1; tables++ }
+        on && /^\| *`/ { row() }
+        on && !/^\|/ { on = 0; armed = 0 }
+        END {
+            if (!tables) print "fault", FILENAME ": no table of sheet lines"
+            for (name in wanted) if (!(name in tabled)) print "fault", FILENAME ": no table for the sheet of " name
+        }' README.md >"$work/said"
+    tell "$work/said"
+done
+
+finish
