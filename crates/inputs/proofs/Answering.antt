@@ -7,7 +7,7 @@ use native.Mathlib.Decide.{decLe}
 use native.Mathlib.Omega.{arith}
 use lib.ListN.{length, take, length-take}
 use lib.Seq.{take-all}
-use Rattle.reading.specs.Limits.{longest}
+use Rattle.limits.specs.Limits.{longest}
 use Rattle.reading.proofs.Promise.{cut-reads}
 use Rattle.judging.specs.Judge.{Judges}
 use Rattle.solving.specs.Rounds.{roundCeiling}

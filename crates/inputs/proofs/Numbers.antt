@@ -4,22 +4,19 @@ use mathlib.Core.Path.{_≡_}
 use mathlib.Core.List.{List}
 use native.Mathlib.Numerals.{add-one}
 use native.Mathlib.Omega.{arith}
-use borrow.Author.Tests.{lt-ltb, le-ltb, le-leb, lt-leb, eq-eqb, ne-eqb}
+use borrow.Author.Tests.{lt-ltb, le-ltb}
 use lib.ListN.{length, getD, drop, drop-of-length-le}
 use lib.Pow.{pow-mono, pow-add}
 use lib.Seq.{drop-cons}
-use Rattle.inputs.specs.Header.{noNumber, valueOf, numberFrom}
-
--- from the facts that branches give to the tests of the definitions
-pub ruleset tests = (lt-ltb, le-ltb, le-leb, lt-leb, eq-eqb, ne-eqb, arith)
+use Rattle.inputs.specs.Header.{noNumber, digitValue, numberFrom}
 
 module _ (digits : List ℕ) (i n : ℕ) where
-  pub number-on : i < length digits → valueOf (getD digits i 0) < 16
-      → numberFrom n (drop i digits) ≡ numberFrom (n * 16 + valueOf (getD digits i 0)) (drop (i + 1) digits)
+  pub number-on : i < length digits → digitValue (getD digits i 0) < 16
+      → numberFrom n (drop i digits) ≡ numberFrom (n * 16 + digitValue (getD digits i 0)) (drop (i + 1) digits)
   unfolding numberFrom
   number-on h l = rw (add-one, drop-cons digits i 0) (simp (lt-ltb _ _ l))
 
-  pub number-none : i < length digits → 16 ≤ valueOf (getD digits i 0) → numberFrom n (drop i digits) ≡ noNumber
+  pub number-none : i < length digits → 16 ≤ digitValue (getD digits i 0) → numberFrom n (drop i digits) ≡ noNumber
   unfolding numberFrom
   number-none h l = rw (drop-cons digits i 0) (simp (le-ltb _ _ l))
 

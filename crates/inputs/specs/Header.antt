@@ -5,7 +5,6 @@ use mathlib.Core.Bool.{cond}
 use mathlib.Core.List.{List, [], _∷_}
 use lib.Dec.{eqb, leb, ltb}
 use lib.ListN.{length, getD, take, drop}
-use Rattle.inputs.specs.declared.Fault.{Fault}
 use Rattle.inputs.specs.declared.Fault.the-variants.{CutShort, NoHeader, TextTooLong, AllowanceTooLarge}
 use Rattle.inputs.specs.declared.header.Header.{Header}
 use Rattle.inputs.specs.declared.header.Header.the-variants.{Faulty, Record}
@@ -15,13 +14,13 @@ abbrev pub noNumber : ℕ
 noNumber = 0x100000000
 
 -- 0-9 a-f by their codes, and 16 for any other character
-unfoldable pub valueOf : ℕ → ℕ
-valueOf c = cond (ltb c 48) 16 (cond (leb c 57) (c - 48) (cond (ltb c 97) 16 (cond (leb c 102) (c - 87) 16)))
+unfoldable pub digitValue : ℕ → ℕ
+digitValue c = cond (ltb c 48) 16 (cond (leb c 57) (c - 48) (cond (ltb c 97) 16 (cond (leb c 102) (c - 87) 16)))
 
 -- the number that digits make behind n, if they are digits
 unfoldable pub numberFrom : ℕ → List ℕ → ℕ
 numberFrom n [] = n
-numberFrom n (c ∷ cs) = let more = numberFrom (n * 16 + valueOf c) cs in cond (ltb (valueOf c) 16) more noNumber
+numberFrom n (c ∷ cs) = let more = numberFrom (n * 16 + digitValue c) cs in cond (ltb (digitValue c) 16) more noNumber
 
 -- the longest text of a record
 abbrev pub longestText : ℕ

@@ -2,7 +2,7 @@
 ghost use mathlib.Core.Path.{_≡_};
 ghost use Prim.Native.Nat.{_≤_};
 ghost use lib.ListN.{length};
-ghost use Rattle.inputs.specs.Header.{valueOf, numberFrom, headerFor, headerOf};
+ghost use Rattle.inputs.specs.Header.{digitValue, numberFrom, headerFor, headerOf};
 use crate::Fault;
 
 // What a header says: how long the text is and how many rounds are allowed, or why it is none.
@@ -21,7 +21,7 @@ const MOST_ROUNDS: u64 = 65535;
 
 // A digit's value, and 16 for any other character.
 fn value(c: u8) -> u64
-    ensures { λ r. ⌜ r ≡ valueOf c ⌝ }
+    ensures { λ r. ⌜ r ≡ digitValue c ⌝ }
 {
     if c < 48 {
         return 16;

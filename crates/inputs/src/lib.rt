@@ -4,7 +4,7 @@
 ghost use mathlib.Core.Path.{_≡_};
 ghost use Prim.Native.Nat.{_<_, _≤_};
 ghost use lib.ListN.{length};
-ghost use Rattle.reading.specs.Limits.{longest};
+ghost use Rattle.limits.specs.Limits.{longest};
 ghost use Rattle.sheet.specs.Write.{Counted};
 ghost use Rattle.inputs.specs.Header.{headerOf, sizeIn, longestText};
 ghost use Rattle.inputs.specs.Answers.{AnswersInput, AnswersRecord, AnswersHeader, noSheet};

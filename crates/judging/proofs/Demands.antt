@@ -18,7 +18,7 @@ use Rattle.judging.specs.declared.Verdict.{Verdict}
 use Rattle.judging.specs.Verdict.{Lower, Discreet, IsBreach}
 use Rattle.judging.specs.Judge.{VerdictOn, VerdictBeside, Judges}
 use Rattle.judging.specs.Demand.{lowerIn, Demand3}
-use Rattle.judging.specs.Compute.{answerOf}
+use Rattle.judging.specs.inner.Compute.{answerOf}
 use Rattle.judging.proofs.Computed.{verdict-for-computed}
 use Rattle.judging.proofs.Verdicts.{verdict-once, verdict-on-once}
 

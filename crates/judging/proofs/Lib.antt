@@ -4,4 +4,3 @@ pub mod Places
 pub mod Verdicts
 pub mod Computed
 pub mod Demands
-pub mod Example

@@ -1,14 +1,16 @@
 -- The order of breaches: two that stand before one another are the same, so that there is one first breach; and at
 -- different places the one at the smaller place stands before. Assumes nothing.
-use Prim.Native.Nat.{ℕ, _/_, _%_, _<_, _≤_}
+use Prim.Native.Nat.{ℕ, _/_, _<_, _≤_}
 use mathlib.Core.Path.{_≡_}
 use mathlib.Core.Logic.{inl, inr}
 use native.Mathlib.Decide.{decLt}
 use native.Mathlib.Omega.{arith}
+use Rattle.limits.specs.Limits.{mostChannels, levels}
+use Rattle.limits.proofs.Places.{levels-in-turn, channels-in-turn, same-place}
 use Rattle.solving.specs.Solutions.{Sets}
 use Rattle.judging.specs.declared.Breach.{Breach}
 use Rattle.judging.specs.Verdict.{InTurn, NotAfter, FirstBreach}
-use Rattle.judging.specs.Compute.{breachAt}
+use Rattle.judging.specs.inner.Compute.{breachAt}
 
 pub same-breach : {b d : Breach} → b .higher ≡ d .higher → b .lower ≡ d .lower → b .channel ≡ d .channel → b .handle ≡ d .handle → b ≡ d
 same-breach p q r s = λ i. record { higher = p i; lower = q i; channel = r i; handle = s i }
@@ -36,18 +38,11 @@ in-turn {m} {n} {A} l rest = go (decLt m n)
     go (yes x) = inl x
     go (no x) = let e : m ≡ n = omega arith in inr (e, rest e)
 
-same-levels : (n m : ℕ) → n / 256 ≡ m / 256 → n / 32 % 8 ≡ m / 32 % 8 → n / 32 ≡ m / 32
-same-levels n m p q = omega arith
-
-same-place : (n m : ℕ) → n / 32 ≡ m / 32 → n % 32 ≡ m % 32 → n ≡ m
-same-place n m p q = omega arith
-
-later-channel : (n m : ℕ) → n ≤ m → n / 32 ≡ m / 32 → n % 32 ≤ m % 32
-later-channel n m l p = omega arith
-
 -- at the place n or a later one, and there with a handle as large
 pub placed-not-after : (n m o u : ℕ) → n ≤ m → (n ≡ m → o ≤ u) → NotAfter (breachAt n o) (breachAt m u)
 placed-not-after n m o u l rest =
-    in-turn (omega arith) λ higher. in-turn (omega arith) λ lower.
-    let levels = same-levels n m higher lower in
-    in-turn (later-channel n m l levels) λ channel. rest (same-place n m levels channel)
+    let pairs = levels-in-turn mostChannels n m (omega arith) l in
+    in-turn (levels-in-turn levels (n / mostChannels) (m / mostChannels) (omega arith) pairs) λ higher.
+    in-turn (channels-in-turn levels (n / mostChannels) (m / mostChannels) pairs higher) λ lower.
+    let pair = same-place levels (n / mostChannels) (m / mostChannels) higher lower in
+    in-turn (channels-in-turn mostChannels n m l pair) λ channel. rest (same-place mostChannels n m pair channel)

@@ -9,7 +9,7 @@ use Rattle.judging.specs.declared.Breach.{Breach}
 use Rattle.judging.specs.declared.Verdict.{Verdict}
 use Rattle.judging.specs.declared.Verdict.the-variants.{Unjudged, Yes, No}
 use Rattle.judging.specs.Verdict.{Discreet, IsBreach, FirstBreach}
-use Rattle.judging.specs.Judge.{yesBytes, noBytes, bytesOf, VerdictOn}
+use Rattle.judging.specs.Judge.{yesBytes, noBytes, verdictBytes, VerdictOn}
 use Rattle.judging.proofs.Order.{same-breach, first-once}
 
 yes-not-no : (b : Breach) → yesBytes ≡ noBytes b → ⊥
@@ -25,7 +25,7 @@ no-bytes-once : (b d : Breach) → noBytes b ≡ noBytes d → b ≡ d
 no-bytes-once b d e = same-breach (cc) (cc) (cc) (cc)
 
 -- a verdict is known by its bytes
-pub verdict-once : (v w : Verdict) → bytesOf v ≡ bytesOf w → v ≡ w
+pub verdict-once : (v w : Verdict) → verdictBytes v ≡ verdictBytes w → v ≡ w
 verdict-once Unjudged Unjudged e = refl
 verdict-once Unjudged Yes e = absurd (none-not-yes e)
 verdict-once Unjudged (No d) e = absurd (none-not-no d e)

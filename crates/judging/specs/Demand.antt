@@ -10,7 +10,7 @@ use Rattle.solving.specs.Least.{Least}
 use Rattle.judging.specs.declared.Breach.{Breach}
 use Rattle.judging.specs.declared.Verdict.{Verdict}
 use Rattle.judging.specs.Verdict.{Lower, Discreet, IsBreach, NotAfter}
-use Rattle.judging.specs.Judge.{yesBytes, noBytes, noVerdict, bytesOf}
+use Rattle.judging.specs.Judge.{yesBytes, noBytes, noVerdict, verdictBytes}
 
 -- g is lower than h in the plan
 abbrev pub lowerIn : Plan → ℕ → ℕ → Type 0
@@ -24,8 +24,8 @@ pub record AcceptableIn (plan : Plan) (t : Sets) : Type 0 where
 -- there is a verdict. It is yes exactly if there is an acceptable solution that is discreet; a no's breach is in every acceptable
 -- solution, and no smaller breach is in the least one
 pub record Demand3 (plan : Plan) (v : Verdict) : Type 1 where
-  pub given : bytesOf v ≢ noVerdict
-  pub yes-exactly : (bytesOf v ≡ yesBytes) ↔ ((t : Sets) × AcceptableIn plan t × Discreet (lowerIn plan) t)
-  pub in-every : (b : Breach) → bytesOf v ≡ noBytes b → (t : Sets) → AcceptableIn plan t → IsBreach (lowerIn plan) t b
-  pub no-smaller : (b : Breach) → bytesOf v ≡ noBytes b → (s : Sets) → Least (plan .tree) s → (d : Breach) → IsBreach (lowerIn plan) s d
+  pub given : verdictBytes v ≢ noVerdict
+  pub yes-exactly : (verdictBytes v ≡ yesBytes) ↔ ((t : Sets) × AcceptableIn plan t × Discreet (lowerIn plan) t)
+  pub in-every : (b : Breach) → verdictBytes v ≡ noBytes b → (t : Sets) → AcceptableIn plan t → IsBreach (lowerIn plan) t b
+  pub no-smaller : (b : Breach) → verdictBytes v ≡ noBytes b → (s : Sets) → Least (plan .tree) s → (d : Breach) → IsBreach (lowerIn plan) s d
       → NotAfter b d

@@ -27,20 +27,20 @@ abbrev pub noVerdict : List ℕ
 noVerdict = []
 
 -- the number and values of each verdict
-abbrev pub bytesOf : Verdict → List ℕ
-bytesOf Unjudged = noVerdict
-bytesOf Yes = yesBytes
-bytesOf (No b) = noBytes b
+abbrev pub verdictBytes : Verdict → List ℕ
+verdictBytes Unjudged = noVerdict
+verdictBytes Yes = yesBytes
+verdictBytes (No b) = noBytes b
 
 -- the verdict on sets: there is one, yes exactly if they are discreet, and a no with b exactly if b is their first breach
 pub record VerdictOn (lower : ℕ → ℕ → Type 0) (s : Sets) (v : Verdict) : Type 0 where
-  pub given : bytesOf v ≢ noVerdict
-  pub clear : (bytesOf v ≡ yesBytes) ↔ Discreet lower s
-  pub breach : (b : Breach) → (bytesOf v ≡ noBytes b) ↔ FirstBreach lower s b
+  pub given : verdictBytes v ≢ noVerdict
+  pub clear : (verdictBytes v ≡ yesBytes) ↔ Discreet lower s
+  pub breach : (b : Breach) → (verdictBytes v ≡ noBytes b) ↔ FirstBreach lower s b
 
 -- the verdict beside what solving answers: none under a refusal, and otherwise the one on the least solution
 pub record VerdictBeside (s : Solved) (v : Verdict) : Type 0 where
-  pub refused : s .refusal .number ≢ 0 → bytesOf v ≡ noVerdict
+  pub refused : s .refusal .number ≢ 0 → verdictBytes v ≡ noVerdict
   pub answered : s .refusal .number ≡ 0 → VerdictOn (Lower (s .head .top)) (membersIn (s .solution)) v
 
 -- what is answered, by what the text reads as

@@ -2,4 +2,5 @@
 pub mod Verdict
 pub mod Judge
 pub mod Demand
-pub mod Compute
+-- For inner contracts and for computing: nothing that a caller has to believe.
+pub mod inner

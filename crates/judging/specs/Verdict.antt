@@ -4,7 +4,8 @@
 use Prim.Native.Nat.{ℕ, _<_, _≤_}
 use mathlib.Core.Path.{_≡_}
 use mathlib.Core.Logic.{_⊎_, _≢_}
-use Rattle.solving.specs.Solutions.{Sets, inSet, outSet, outermost}
+use Rattle.limits.specs.Limits.{outermost}
+use Rattle.solving.specs.Solutions.{Sets, inSet, outSet}
 use Rattle.judging.specs.declared.Breach.{Breach}
 
 -- level g is lower than level h: as numbers, among the levels 0 to k. # is comparable to none

@@ -4,6 +4,8 @@ ghost use Rattle.reading.specs.Plan.{planIn};
 ghost use Rattle.solving.specs.Solutions.{membersIn};
 ghost use Rattle.judging.specs.Verdict.{Lower};
 ghost use Rattle.judging.specs.Judge.{VerdictOn, Judges};
+use limits::CHANNEL_SETS;
+use sets::Set;
 use solving::Solution;
 use solving::Solved;
 
@@ -28,8 +30,13 @@ pub struct Answer {
     pub verdict: Verdict,
 }
 
-// The number of the outermost level, among places.
-const OUTERMOST: usize = solving::OUTERMOST as usize;
+// The outermost level and the number of levels, among places. There is a place for each two levels and each channel, by the higher level, then
+// the lower, then the channel.
+const OUTERMOST: usize = limits::OUTERMOST as usize;
+
+const LEVELS: usize = limits::LEVELS as usize;
+
+const PLACES: usize = LEVELS * LEVELS * CHANNEL_SETS;
 
 // Whether level `low` is lower than level `high`: as numbers, among the levels 0 to `top`. The outermost level is comparable to none.
 fn is_lower(low: usize, high: usize, top: u8) -> bool
@@ -48,13 +55,13 @@ fn is_lower(low: usize, high: usize, top: u8) -> bool
 }
 
 // The handles that go down from `high` to `low`, where `sent` are sent at the one and `received` are received at the other.
-fn going_down(low: usize, high: usize, top: u8, sent: u32, received: u32) -> u32
+fn going_down(low: usize, high: usize, top: u8, sent: Set, received: Set) -> Set
     ensures { λ r. ⌜ Members r (λ o. Lower top low high × Has sent o × Has received o) ⌝ }
 {
     if is_lower(low, high, top) {
-        return sent & received;
+        return sets::both(sent, received);
     }
-    0
+    sets::empty()
 }
 
 // The verdict on any sets, with the levels 0 to `top` ordered as numbers: yes exactly if nothing goes down, and otherwise the first breach.
@@ -64,14 +71,15 @@ fn verdict_of(solution: Solution, top: u8) -> Verdict
     let outs = solution.outs;
     let ins = solution.ins;
     let mut place: usize = 0;
-    while place < 2048 {
-        let high = place / 256;
-        let low = place / 32 % 8;
-        let channel = place % 32;
-        let sent = outs[high * 32 + channel];
-        let received = ins[low * 32 + channel];
+    while place < PLACES {
+        let pair = place / CHANNEL_SETS;
+        let high = pair / LEVELS;
+        let low = pair % LEVELS;
+        let channel = place % CHANNEL_SETS;
+        let sent = sets::rows::at(&outs, high * CHANNEL_SETS + channel);
+        let received = sets::rows::at(&ins, low * CHANNEL_SETS + channel);
         let handles = going_down(low, high, top, sent, received);
-        if handles != 0 {
+        if !sets::is_empty(handles) {
             let handle = sets::least(handles);
             return Verdict::No(Breach {
                 higher: high as u8,

@@ -6,11 +6,12 @@ use mathlib.Core.Path.{_≡_, refl}
 use mathlib.Core.Bool.{Bool, true, _&&_}
 use mathlib.Core.List.{List, [], _∷_, _++_}
 use lib.Dec.{eqb}
-use Rattle.reading.specs.Text.{linesOf, isDigit, valueOf, allDigits, oddOrNone, isFaulty, bytesOf}
-use Rattle.reading.specs.Frames.{table, frameFrom, frameFor, frameIn}
-use Rattle.reading.specs.Rules.{outsideLimits, headRule, nameRule, pairRule, receiveRule, restrictionRule, bracketRule}
+use Rattle.lines.specs.Text.{linesOf, isDigit, valueOf, allDigits, oddOrNone, isFaulty, bytesOf}
+use Rattle.lines.specs.Frames.{outside, table, frameFrom, rowIn, frameIn}
+use Rattle.lines.specs.Rules.{outsideLimits, headRule, nameRule, pairRule, receiveRule, restrictionRule, bracketRule}
+use Rattle.lines.specs.Line.{firstHead, nextName, nextNode}
 use Rattle.reading.specs.Tree.{listing}
-use Rattle.reading.specs.Plan.{Outcome, refused, read, Plan, grow, readNames, nextNode, readTree, afterHead, readPlan, wrongLength, planIn}
+use Rattle.reading.specs.Plan.{Outcome, refused, read, Plan, grow, readNames, readTree, afterHead, readPlan, wrongLength, planIn}
 use Rattle.sheet.specs.Sheet.{text}
 
 -- so many lines of one kind
@@ -24,15 +25,15 @@ sums zero = text "10\n"
 sums (suc n) = text "14\n" ++ (sums n ++ sums n)
 
 -- a text, with the number and the line of its refusal, or 0 and 0
-record Row : Type 0 where
+record Edge : Type 0 where
   said : List ℕ
   number : ℕ
   line : ℕ
 
-abbrev row : List ℕ → ℕ → ℕ → Row
+abbrev row : List ℕ → ℕ → ℕ → Edge
 row said number line = record { said = said; number = number; line = line }
 
-rows : List Row
+rows : List Edge
 rows =
     row (text "") 1 0
     ∷ row (text "010101000000\n10\n") 0 0
@@ -60,12 +61,12 @@ abbrev answers : Outcome Plan → ℕ → ℕ → Bool
 answers (refused f) number line = eqb (f .number) number && eqb (f .line) line
 answers (read p) number line = eqb 0 number && eqb 0 line
 
-abbrev all : List Row → Bool
+abbrev all : List Edge → Bool
 all [] = true
 all (r ∷ rs) = answers (planIn (r .said)) (r .number) (r .line) && all rs
 
 edges : all rows ≡ true
-unfolding linesOf isDigit valueOf allDigits oddOrNone isFaulty bytesOf table frameFrom frameFor frameIn
-    outsideLimits headRule nameRule pairRule receiveRule restrictionRule bracketRule listing
-    grow readNames nextNode readTree afterHead readPlan wrongLength planIn rows
+unfolding linesOf isDigit valueOf allDigits oddOrNone isFaulty bytesOf outside table frameFrom rowIn frameIn
+    outsideLimits headRule nameRule pairRule receiveRule restrictionRule bracketRule firstHead nextName nextNode listing
+    grow readNames readTree afterHead readPlan wrongLength planIn rows
 edges = refl

@@ -3,29 +3,32 @@
 use Prim.Native.Nat.{ℕ}
 use mathlib.Core.Path.{_≡_, refl, subst}
 use mathlib.Core.List.{List, [], _∷_, _++_, map}
-use Rattle.reading.specs.Text.{linesOf, isDigit, valueOf, allDigits, oddOrNone, isFaulty, bytesOf}
-use Rattle.reading.specs.Frames.{table, frameFrom, frameFor, frameIn}
-use Rattle.reading.specs.Rules.{outsideLimits, headRule, nameRule, pairRule, receiveRule, restrictionRule, bracketRule}
+use Rattle.lines.specs.Text.{linesOf, isDigit, valueOf, allDigits, oddOrNone, isFaulty, bytesOf}
+use Rattle.lines.specs.Frames.{outside, table, frameFrom, rowIn, frameIn}
+use Rattle.lines.specs.Rules.{outsideLimits, headRule, nameRule, pairRule, receiveRule, restrictionRule, bracketRule}
+use Rattle.lines.specs.Line.{firstHead, nextName, nextNode}
 use Rattle.reading.specs.Tree.{listing}
-use Rattle.reading.specs.Plan.{grow, readNames, nextNode, readTree, afterHead, readPlan, wrongLength, planIn}
-use Rattle.solving.specs.Compute.{wanted, run, solutionOf}
-use Rattle.judging.specs.Compute.{lowest, verdictFrom}
+use Rattle.reading.specs.Plan.{grow, readNames, readTree, afterHead, readPlan, wrongLength, planIn}
+use Rattle.solving.specs.Rounds.{roundCeiling}
+use Rattle.solving.specs.inner.Compute.{wanted, run, solutionOf}
+use Rattle.sets.specs.inner.Compute.{lowestWithin}
+use Rattle.judging.specs.inner.Compute.{verdictFrom}
 use Rattle.sheet.specs.Sheet.{setLines, text, digit, hexLine, hexLines, SheetFor}
-use Rattle.sheet.specs.Compute.{sheetFor}
+use Rattle.sheet.specs.inner.Compute.{sheetFor}
 use Rattle.sheet.proofs.Sheets.{sheet-computed}
 
 -- a plan's text, an allowance of rounds, and the sheet
-pub record Row : Type 0 where
+pub record KnownPlan : Type 0 where
   pub plan : List ℕ
   pub allowance : ℕ
   pub sheet : List ℕ
 
-abbrev row : List ℕ → ℕ → List ℕ → Row
+abbrev row : List ℕ → ℕ → List ℕ → KnownPlan
 row plan allowance sheet = record { plan = plan; allowance = allowance; sheet = sheet }
 
 -- what the plan program allows
 abbrev allowed : ℕ
-allowed = 17409
+allowed = roundCeiling
 
 abbrev p2 : List ℕ
 p2 = text "010102010102\n020000\n020101\n15\n1901\n120001\n10\n1900\n13000200\n10\n"
@@ -51,7 +54,7 @@ p6-sheet =
 abbrev clear-at-once : List ℕ
 clear-at-once = text "2f0001\n3001\nflow clear\n"
 
-pub rows : List Row
+pub rows : List KnownPlan
 rows =
     row (text "010101000000\n10\n") allowed clear-at-once
     ∷ row p2 allowed p2-sheet
@@ -76,25 +79,25 @@ rows =
     ∷ []
 
 -- the sheets as they are computed, and as they stand in the rows
-abbrev computed : List Row → List (List ℕ)
-computed rs = map (λ (r : Row). sheetFor (r .plan) (r .allowance)) rs
+abbrev computed : List KnownPlan → List (List ℕ)
+computed rs = map (λ (r : KnownPlan). sheetFor (r .plan) (r .allowance)) rs
 
-abbrev sheets : List Row → List (List ℕ)
-sheets rs = map (λ (r : Row). r .sheet) rs
+abbrev sheets : List KnownPlan → List (List ℕ)
+sheets rs = map (λ (r : KnownPlan). r .sheet) rs
 
 computed-rows : computed rows ≡ sheets rows
-unfolding linesOf isDigit valueOf allDigits oddOrNone isFaulty bytesOf table frameFrom frameFor frameIn
+unfolding linesOf isDigit valueOf allDigits oddOrNone isFaulty bytesOf outside table frameFrom rowIn frameIn
     outsideLimits headRule nameRule pairRule receiveRule restrictionRule bracketRule listing
-    grow readNames nextNode readTree afterHead readPlan wrongLength planIn
-    wanted run solutionOf lowest verdictFrom setLines digit hexLine hexLines sheetFor rows
+    grow firstHead nextName nextNode readNames readTree afterHead readPlan wrongLength planIn
+    wanted run solutionOf lowestWithin verdictFrom setLines digit hexLine hexLines sheetFor rows
 computed-rows = refl
 
 -- each row's sheet is that of its text within its allowance
-abbrev pub Known : List Row → Type 0
+abbrev pub Known : List KnownPlan → Type 0
 Known [] = Unit {0}
 Known (r ∷ rs) = SheetFor (r .plan) (r .allowance) (r .sheet) × Known rs
 
-from-computed : (rs : List Row) → computed rs ≡ sheets rs → Known rs
+from-computed : (rs : List KnownPlan) → computed rs ≡ sheets rs → Known rs
 from-computed [] e = tt
 from-computed (r ∷ rs) e =
     let first : sheetFor (r .plan) (r .allowance) ≡ r .sheet = cc in

@@ -2,32 +2,31 @@
 -- Assumes nothing.
 use Prim.Native.Nat.{ℕ, zero, suc, _+_, _-_, _<_}
 use mathlib.Core.Path.{_≡_, refl, sym, ap, _∙_, subst}
-use mathlib.Core.Bool.{Bool, true, false, cond}
+use mathlib.Core.Bool.{Bool, true, false}
 use mathlib.Core.List.{List, [], _∷_, _++_, map, map-append}
 use native.Mathlib.Numerals.{add-one, sub-one}
 use native.Mathlib.Omega.{arith}
-use lib.Dec.{leb, eqb}
 use lib.ListN.{length, set, length-append, length-map}
 use lib.Seq.{sets}
-use borrow.Author.Tests.{leb-false, eqb-false}
-use Rattle.reading.specs.declared.Head.{Head}
-use Rattle.reading.specs.declared.Node.{Node}
-use Rattle.reading.specs.declared.Node.the-variants.{Nil, Silent, Send, Receive, Sum, Parallel, Restriction, Match, Replication, Bracket}
+use Rattle.lines.specs.declared.Head.{Head}
+use Rattle.lines.specs.declared.Node.{Node}
+use Rattle.lines.specs.declared.Node.the-variants.{Nil, Silent, Send, Receive, Sum, Parallel, Restriction, Match, Replication, Bracket}
 use Rattle.reading.specs.declared.Refusal.{Refusal}
 use Rattle.reading.specs.declared.Slot.{Slot}
 use Rattle.reading.specs.declared.cursor.Cursor.{Cursor}
-use Rattle.reading.specs.declared.rules.Step.{Step}
+use Rattle.lines.specs.declared.Step.{Step}
 use Rattle.reading.specs.declared.tree.State.{State}
-use Rattle.reading.specs.Frames.{Judged, faulty, fine, andOn, treeLines, frameIn}
-use Rattle.reading.specs.Scope.{Scope, inside}
-use Rattle.reading.specs.Rules.{nodeIn}
-use Rattle.reading.specs.Limits.{mostNodes}
+use Rattle.lines.specs.Text.{rest}
+use Rattle.lines.specs.Frames.{faulty, fine}
+use Rattle.lines.specs.Scope.{Scope, inside}
+use Rattle.lines.specs.Line.{nextNode}
+use Rattle.lines.specs.Values.{restAt, stepOf}
+use Rattle.lines.specs.Promise.{NodeFits}
 use Rattle.reading.specs.Tree.{Tree, silent, send, receive, sum, parallel, restriction, match, replication, bracket, branchCount, listing}
-use Rattle.reading.specs.Plan.{Outcome, refused, read, Place, rest, onward, refuse, andThen, Grown, Reader, one, two, grow, nextNode, readTree, slot}
-use Rattle.reading.specs.Working.{restAt, endAt, stepOf, Stands, placeAt, Past, Grows, GrowsOn, Branches}
-use Rattle.reading.proofs.Lines.{rest-split}
-use Rattle.reading.proofs.Stores.{sets-append}
-use Rattle.reading.proofs.Table.{Framing, framing}
+use Rattle.reading.specs.Plan.{Outcome, refused, read, Place, onward, refuse, andThen, Grown, Reader, one, two, grow, readTree, slot}
+use Rattle.reading.specs.inner.Working.{StandsIn, placeAt, Past, Grows, GrowsOn, Branches}
+use Rattle.lines.proofs.Lists.{sets-append}
+use Rattle.lines.proofs.Promise.{rest-split, step-faulty, step-found, node-fits}
 
 -- ---- one line on
 
@@ -36,41 +35,6 @@ onward-past s cursor r h p = λ i. record { line = sym (p .line) i; left = lines
   where
     lines : rest (restAt s (cursor .at)) ≡ restAt s (r .at)
     lines = ap rest (rest-split s (cursor .at) h) ∙ ap (restAt s) (sym (p .at))
-
--- ---- what the next line says
-
-pub step-faulty : (j : Judged Node) (w : ℕ) → stepOf j ≡ Step.Faulty w → j ≡ faulty w
-step-faulty (faulty n) w e = cc
-step-faulty (fine n) w e = let z : _≡_ {A = ℕ} 0 1 = cc in absurd (omega arith)
-
-pub step-found : (j : Judged Node) (node : Node) → stepOf j ≡ Step.Found node → j ≡ fine node
-step-found (faulty n) node e = let z : _≡_ {A = ℕ} 0 1 = cc in absurd (omega arith)
-step-found (fine n) node e = cc
-
--- a node was found: its line is whole, and there was room and depth for it
-pub record Found (s : List ℕ) (at depth count : ℕ) : Type 0 where
-  pub here : at < length s
-  pub inside : endAt s at < length s
-  pub room : count < mostNodes
-  pub deep : depth ≡ 0 → ⊥
-
-pub found : (s : List ℕ) (at depth : ℕ) (h : Head) (scope : Scope) (count : ℕ) (node : Node)
-    → nextNode depth h scope count (restAt s at) ≡ fine node → Found s at depth count
-unfolding nextNode
-found s at depth h scope count node q = go (frameIn treeLines (restAt s at)) refl q
-  where
-    with-frame : (bytes : List ℕ) → Framing s treeLines at bytes → (a b : Bool) → leb mostNodes count ≡ a → eqb depth 0 ≡ b
-        → cond a (faulty 10) (cond b (faulty 11) (nodeIn h scope bytes)) ≡ fine node → Found s at depth count
-    with-frame bytes f true b ea eb q = let z : _≡_ {A = ℕ} 0 1 = cc in absurd (omega arith)
-    with-frame bytes f false true ea eb q = let z : _≡_ {A = ℕ} 0 1 = cc in absurd (omega arith)
-    with-frame bytes f false false ea eb q =
-        record { here = f .here; inside = f .inside; room = leb-false mostNodes count ea; deep = eqb-false depth 0 eb }
-
-    go : (j : Judged (List ℕ)) → frameIn treeLines (restAt s at) ≡ j
-        → andOn j (λ frame. cond (leb mostNodes count) (faulty 10) (cond (eqb depth 0) (faulty 11) (nodeIn h scope frame))) ≡ fine node
-        → Found s at depth count
-    go (faulty n) e q = let z : _≡_ {A = ℕ} 0 1 = cc in absurd (omega arith)
-    go (fine bytes) e q = with-frame bytes (framing s treeLines at bytes e) (leb mostNodes count) (eqb depth 0) refl refl q
 
 -- ---- the tree, by what the next line says
 
@@ -119,7 +83,7 @@ module _ (s : List ℕ) (nodes : List Slot) (n : ℕ) (node : Node) where
           one-grows (listing (g .tree)) (f (g .tree)) (h (g .tree)) branch ((n + 1) + length (listing (g .tree))) (g .after) r refl w
 
 module _ (s : List ℕ) (nodes : List Slot) (n : ℕ) (branch : Reader) (st r : State)
-    (counted : st .count ≡ n + 1) (stands : Stands s (st .cursor)) (good : st .good ≡ true) where
+    (counted : st .count ≡ n + 1) (stands : StandsIn s (st .cursor)) (good : st .good ≡ true) where
   one-on : (node : Node) (f : Tree → Tree) → ((p : Tree) → listing (f p) ≡ node ∷ listing p) → st .nodes ≡ set nodes n (slot node)
       → Branches 1 s st branch r → Grows s nodes n (one f branch (n + 1) (placeAt s (st .cursor))) r
   one-on node f h stored b =
@@ -134,7 +98,7 @@ module _ (s : List ℕ) (nodes : List Slot) (n : ℕ) (branch : Reader) (st r : 
   unfolding grow listing
   grow-grows Nil stored b = record {
     good = ap (λ (t : State). t .good) b ∙ good;
-    stands = subst (λ (t : State). Stands s (t .cursor)) (sym b) stands;
+    stands = subst (λ (t : State). StandsIn s (t .cursor)) (sym b) stands;
     place = ap (λ (t : State). placeAt s (t .cursor)) (sym b);
     count = ap (λ (t : State). t .count) b ∙ counted;
     nodes = ap (λ (t : State). t .nodes) b ∙ stored;
@@ -155,7 +119,7 @@ pub true-not-false : (b : Bool) → b ≡ true → b ≡ false → ⊥
 true-not-false b t f = let z : _≡_ {A = Bool} true false = sym t ∙ f in let w : _≡_ {A = ℕ} 0 1 = cc in omega arith
 
 -- a good state stands in the text
-pub grows-stands : (s : List ℕ) (before : List Slot) (n : ℕ) (o : Outcome Grown) (r : State) → Grows s before n o r → r .good ≡ true → Stands s (r .cursor)
+pub grows-stands : (s : List ℕ) (before : List Slot) (n : ℕ) (o : Outcome Grown) (r : State) → Grows s before n o r → r .good ≡ true → StandsIn s (r .cursor)
 grows-stands s before n (refused f) r g e = absurd (true-not-false (r .good) e (g .0))
 grows-stands s before n (read g) r w e = w .stands
 
@@ -206,18 +170,18 @@ module _ (s : List ℕ) (h : Head) (scope : Scope) (depth : ℕ) (st r : State) 
     next-fine : nextNode depth h scope (st .count) (restAt s (st .cursor .at)) ≡ fine node
     next-fine = step-found (nextNode depth h scope (st .count) (restAt s (st .cursor .at))) node (sym said ∙ good)
 
-    pub node-found : Found s (st .cursor .at) depth (st .count)
-    node-found = found s (st .cursor .at) depth h scope (st .count) node next-fine
+    pub node-found : NodeFits s (st .cursor .at) depth (st .count)
+    node-found = node-fits s (st .cursor .at) depth h scope (st .count) node next-fine
 
     pub node-grown : (more : State) (inner : Scope) (many : ℕ)
-        → Past s (st .cursor) (more .cursor) → Stands s (more .cursor) → more .good ≡ true → more .count ≡ st .count + 1
+        → Past s (st .cursor) (more .cursor) → StandsIn s (more .cursor) → more .good ≡ true → more .count ≡ st .count + 1
         → more .nodes ≡ set (st .nodes) (st .count) (slot node) → inner ≡ inside node scope → many ≡ branchCount node
         → Branches many s more (readTree (depth - 1) h inner) r
         → Grows s (st .nodes) (st .count) (readTree depth h scope (st .count) (placeAt s (st .cursor))) r
     node-grown more inner many past stands fine-state counted stored entered arity b =
         rw (
           tree-fine h scope (st .count) (placeAt s (st .cursor)) depth node (node-found .deep) next-fine,
-          onward-past s (st .cursor) (more .cursor) (node-found .here) past,
+          onward-past s (st .cursor) (more .cursor) (node-found .whole .here) past,
         )
         (grow-grows s (st .nodes) (st .count) (readTree (depth - 1) h (inside node scope)) more r counted stands fine-state node stored
         (rw (entered, arity) at b))

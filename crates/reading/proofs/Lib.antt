@@ -1,13 +1,7 @@
--- The laws behind the functions' proofs, from lines to the whole text; then what reading promises.
-pub mod Tests
-pub mod Lines
-pub mod Stores
-pub mod Scopes
-pub mod Table
-pub mod Growing
-pub mod Naming
-pub mod RulesWithin
-pub mod TreeWithin
+-- The laws behind the functions' proofs, from a node to the whole text. The crates above cite those that are pub: what reading promises.
+mod Growing
+mod Naming
+mod TreeWithin
 pub mod Promise
-pub mod Whole
+mod Whole
 pub mod Listing

@@ -1,41 +1,26 @@
 -- Free names read from a place, as the code holds them: what the next line says, then the rest, stored behind it and given inside it.
 -- Assumes nothing.
-use Prim.Native.Nat.{ℕ, zero, suc, _+_, _-_, _<_}
+use Prim.Native.Nat.{ℕ, zero, suc, _+_, _-_}
 use mathlib.Core.Path.{_≡_, refl, sym, _∙_}
 use mathlib.Core.Bool.{true, false}
 use mathlib.Core.List.{List}
 use native.Mathlib.Numerals.{add-one, sub-one}
-use native.Mathlib.Omega.{arith}
-use lib.ListN.{length, set}
-use Rattle.reading.specs.declared.FreeName.{FreeName}
-use Rattle.reading.specs.declared.Head.{Head}
-use Rattle.reading.specs.declared.Marker.the-variants.{Channel}
+use lib.ListN.{set}
+use Rattle.lines.specs.declared.FreeName.{FreeName}
+use Rattle.lines.specs.declared.Head.{Head}
+use Rattle.lines.specs.declared.Marker.the-variants.{Channel}
 use Rattle.reading.specs.declared.Refusal.{Refusal}
 use Rattle.reading.specs.declared.names.Names.{Names}
-use Rattle.reading.specs.declared.rules.Entry.{Entry}
-use Rattle.reading.specs.Frames.{Judged, faulty, fine, andOn, freeNames, frameIn}
-use Rattle.reading.specs.Scope.{giving}
-use Rattle.reading.specs.Rules.{nameIn}
-use Rattle.reading.specs.Plan.{Outcome, refused, read, Place, onward, refuse, andThen, Named, before, nextName, readNames}
-use Rattle.reading.specs.Working.{restAt, endAt, entryOf, meaningIn, Stands, placeAt, Past, Gathers}
-use Rattle.reading.proofs.Table.{framing}
+use Rattle.lines.specs.declared.Entry.{Entry}
+use Rattle.lines.specs.Frames.{Judged, faulty, fine}
+use Rattle.lines.specs.Scope.{giving}
+use Rattle.lines.specs.Line.{nextName}
+use Rattle.lines.specs.Values.{restAt, entryOf, meaningIn}
+use Rattle.lines.specs.Promise.{LineWhole}
+use Rattle.reading.specs.Plan.{Outcome, refused, read, Place, onward, refuse, andThen, Named, before, readNames}
+use Rattle.reading.specs.inner.Working.{StandsIn, placeAt, Past, Gathers}
+use Rattle.lines.proofs.Promise.{entry-faulty, entry-found, name-whole}
 use Rattle.reading.proofs.Growing.{onward-past}
-
-entry-faulty : (j : Judged FreeName) (w : ℕ) → entryOf j ≡ Entry.Faulty w → j ≡ faulty w
-entry-faulty (faulty n) w e = cc
-entry-faulty (fine n) w e = let z : _≡_ {A = ℕ} 0 1 = cc in absurd (omega arith)
-
-entry-found : (j : Judged FreeName) (name : FreeName) → entryOf j ≡ Entry.Found name → j ≡ fine name
-entry-found (faulty n) name e = let z : _≡_ {A = ℕ} 0 1 = cc in absurd (omega arith)
-entry-found (fine n) name e = cc
-
--- a free name was found: its line is whole
-whole : (s : List ℕ) (at : ℕ) (h : Head) (least : ℕ) (name : FreeName) → nextName h least (restAt s at) ≡ fine name → (at < length s) × (endAt s at < length s)
-whole s at h least name q = go (frameIn freeNames (restAt s at)) refl q
-  where
-    go : (j : Judged (List ℕ)) → frameIn freeNames (restAt s at) ≡ j → andOn j (nameIn h least) ≡ fine name → (at < length s) × (endAt s at < length s)
-    go (faulty n) e q = let z : _≡_ {A = ℕ} 0 1 = cc in absurd (omega arith)
-    go (fine bytes) e q = let f = framing s freeNames at bytes e in (f .here, f .inside)
 
 -- ---- the names, by what the next line says
 
@@ -54,7 +39,7 @@ module _ (h : Head) (least : ℕ) (place : Place) where
 -- ---- what `read_names` returns: `r` is the result, and the rest what its calls gave
 
 module _ (s : List ℕ) (h : Head) (many least : ℕ) (st r : Names) where
-  pub names-none : many ≡ 0 → Stands s (st .cursor) → st .good ≡ true → Gathers s st (readNames many h least (placeAt s (st .cursor))) st
+  pub names-none : many ≡ 0 → StandsIn s (st .cursor) → st .good ≡ true → Gathers s st (readNames many h least (placeAt s (st .cursor))) st
   unfolding readNames
   names-none e stands good = rw e (record { good = good; stands = stands; place = refl; names = refl; scope = refl })
 
@@ -73,8 +58,8 @@ module _ (s : List ℕ) (h : Head) (many least : ℕ) (st r : Names) where
       unfolding next-name
       found = entry-found next-name name (sym said ∙ good)
 
-      pub name-whole : (st .cursor .at < length s) × (endAt s (st .cursor .at) < length s)
-      name-whole = whole s (st .cursor .at) h least name found
+      pub name-there : LineWhole s (st .cursor .at)
+      name-there = name-whole s (st .cursor .at) h least name found
 
       pub names-on : (next : Names) → Past s (st .cursor) (next .cursor) → next .count ≡ st .count + 1
           → next .names ≡ set (st .names) (st .count) name
@@ -82,7 +67,7 @@ module _ (s : List ℕ) (h : Head) (many least : ℕ) (st r : Names) where
           → Gathers s next (readNames (many - 1) h (name .name + 1) (placeAt s (next .cursor))) r
           → Gathers s st (readNames many h least (placeAt s (st .cursor))) r
       names-on next past counted stored given g =
-          rw (names-fine h least (placeAt s (st .cursor)) many name more found, onward-past s (st .cursor) (next .cursor) (name-whole .0) past)
+          rw (names-fine h least (placeAt s (st .cursor)) many name more found, onward-past s (st .cursor) (next .cursor) (name-there .here) past)
           (go (readNames (many - 1) h (name .name + 1) (placeAt s (next .cursor))) g)
         where
           go : (o : Outcome Named) → Gathers s next o r → Gathers s st (andThen o λ named. read (before name named)) r

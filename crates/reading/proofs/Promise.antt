@@ -11,16 +11,16 @@ use lib.Dec.{ltb, eqb, lit<}
 use lib.ListN.{length, take}
 use lib.Seq.{take-all, length-take-le}
 use borrow.Author.Tests.{ne-eqb, lt-ltb, ltb-false}
-use Rattle.reading.specs.declared.Head.{Head}
+use Rattle.lines.specs.declared.Head.{Head}
+use Rattle.limits.specs.Limits.{longest, mostDepth}
+use Rattle.lines.specs.Text.{Line, lineFeed, inFront, linesOf}
+use Rattle.lines.specs.Scope.{noNames, naming}
+use Rattle.lines.specs.Line.{firstHead}
+use Rattle.lines.specs.Promise.{OnLine, HeadWithin}
+use Rattle.lines.proofs.Promise.{head-given, nothing-within}
 use Rattle.reading.specs.declared.Reading.{Reading}
-use Rattle.reading.specs.Limits.{longest, mostDepth}
-use Rattle.reading.specs.Text.{Line, lineFeed, inFront, linesOf}
-use Rattle.reading.specs.Frames.{Judged, faulty, fine, byte, firstLine, frameIn}
-use Rattle.reading.specs.Scope.{noNames, naming}
-use Rattle.reading.specs.Rules.{headIn}
-use Rattle.reading.specs.Plan.{Outcome, refused, read, Place, onward, readNames, readTree, Plan, closed, firstHead, afterHead, readPlan, wrongLength, planIn, readingOf}
-use Rattle.reading.specs.Promise.{HeadWithin, NamesWithin, givenBy, PlanWithin, Kept}
-use Rattle.reading.proofs.RulesWithin.{Judges, judges-on, some-line, head-within, ScopeWithin}
+use Rattle.reading.specs.Plan.{Outcome, refused, read, Place, onward, readNames, readTree, Plan, closed, afterHead, readPlan, wrongLength, planIn, readingOf}
+use Rattle.reading.specs.Promise.{NamesWithin, givenBy, PlanWithin, Kept}
 use Rattle.reading.proofs.TreeWithin.{Numbered, Ends, ends-then, ends-judged, numbered-on, names-within, naming-within, TreeGood, tree-within}
 
 -- a text has no more lines than characters
@@ -34,9 +34,6 @@ few-lines (c ∷ s) = go (eqb c lineFeed) (linesOf s) (few-lines s)
     go false [] h = omega arith
     go false (l ∷ ls) h = omega arith
 
-no-scope : (h : Head) → ScopeWithin h [] noNames
-no-scope h name m e = let z : _≡_ {A = ℕ} 0 1 = cc in absurd (omega arith)
-
 -- nothing follows the tree
 closed-within : (m : ℕ) (place : Place) (left : List Line) (p : Plan) → Numbered m place → PlanWithin p → Ends m PlanWithin (closed place left p)
 closed-within m place [] p numbered w = w
@@ -49,7 +46,7 @@ after-within m h place within numbered =
     (names-within m h (h .names) 0 place numbered)
     (λ n w. ends-then m (TreeGood m h (givenBy (n .names) []) mostDepth 0) PlanWithin
     (readTree mostDepth h (naming noNames (n .names)) 0 (n .after)) _
-    (tree-within m h (givenBy (n .names) []) mostDepth (naming noNames (n .names)) 0 (n .after) (naming-within h [] noNames 0 (n .names) (no-scope h) (w .1)) (w .2))
+    (tree-within m h (givenBy (n .names) []) mostDepth (naming noNames (n .names)) 0 (n .after) (naming-within h [] noNames 0 (n .names) (nothing-within h) (w .1)) (w .2))
     (λ g t. closed-within m (g .after) (g .after .left) (record { head = h; names = n .names; tree = g .tree }) (t .numbered)
     (record {
       head = within;
@@ -61,19 +58,10 @@ after-within m h place within numbered =
       scoped = t .scoped;
     })))
 
-pub first-within : (left : List Line) → Judges (λ h. HeadWithin h × (0 < length left)) (firstHead left)
-first-within left =
-    judges-on (λ (frame : List ℕ). 0 < length left) (λ h. HeadWithin h × (0 < length left)) (frameIn firstLine left) headIn (some-line firstLine left)
-    (λ frame some. both some (headIn frame) (head-within (byte 1 frame) _))
-  where
-    both : 0 < length left → (j : Judged Head) → Judges HeadWithin j → Judges (λ h. HeadWithin h × (0 < length left)) j
-    both some (faulty n) w = w
-    both some (fine h) w = (w, some)
-
 plan-within : (m : ℕ) (place : Place) → Numbered m place → Ends m PlanWithin (readPlan place)
 unfolding readPlan
 plan-within m place numbered =
-    ends-judged m (λ h. HeadWithin h × (0 < length (place .left))) PlanWithin place (firstHead (place .left)) _ numbered (first-within (place .left))
+    ends-judged m (OnLine (place .left) HeadWithin) PlanWithin place (firstHead (place .left)) _ numbered (head-given (place .left))
     (λ h w. after-within m h (onward place) (w .0) (numbered-on m place (w .1) numbered))
 
 -- every text: a refusal has a number from 1 to 13 and a line that fits two bytes, and a plan is within the limits

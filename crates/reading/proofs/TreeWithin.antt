@@ -2,30 +2,27 @@
 -- with room for it, in whose scope every marker is given.
 -- Assumes nothing.
 use Prim.Native.Nat.{ℕ, zero, suc, _+_, _≤_, _<_, max}
-use mathlib.Core.Path.{_≡_, refl, sym, ap, subst}
-use mathlib.Core.Bool.{Bool, true, false, cond}
-use mathlib.Core.List.{List, [], _∷_, _++_, List·Memᴰ·head, List·Memᴰ·tail}
+use mathlib.Core.Path.{_≡_, refl, ap}
+use mathlib.Core.List.{List, [], _∷_, _++_}
 use native.Mathlib.Omega.{arith}
-use lib.Dec.{leb, eqb}
 use lib.ListN.{length, length-append}
-use borrow.Author.Tests.{leb-false}
-use Rattle.reading.specs.declared.Head.{Head}
-use Rattle.reading.specs.declared.FreeName.{FreeName}
+use Rattle.lines.specs.declared.FreeName.{FreeName}
+use Rattle.lines.specs.declared.Head.{Head}
+use Rattle.lines.specs.declared.Marker.{Marker}
+use Rattle.lines.specs.declared.Marker.the-variants.{Channel, Binder}
+use Rattle.lines.specs.declared.Node.{Node}
+use Rattle.lines.specs.declared.Node.the-variants.{Nil, Silent, Send, Receive, Sum, Parallel, Restriction, Match, Replication, Bracket}
+use Rattle.limits.specs.Limits.{mostNodes}
+use Rattle.lines.specs.Text.{Line, rest}
+use Rattle.lines.specs.Frames.{Judged, faulty, fine}
+use Rattle.lines.specs.Scope.{Scope, giving, naming, inside}
+use Rattle.lines.specs.Line.{nextName, nextNode}
+use Rattle.lines.specs.Promise.{Gives, OnLine, NameWithin, NodeWithin, enclosed, ScopeWithin, NodeGood, NodeNext}
+use Rattle.lines.proofs.Promise.{name-given, node-given, giving-within, inside-within}
 use Rattle.reading.specs.declared.Refusal.{Refusal}
-use Rattle.reading.specs.declared.Marker.{Marker}
-use Rattle.reading.specs.declared.Marker.the-variants.{Channel, Binder}
-use Rattle.reading.specs.declared.Node.{Node}
-use Rattle.reading.specs.declared.Node.the-variants.{Nil, Silent, Send, Receive, Sum, Parallel, Restriction, Match, Replication, Bracket}
-use Rattle.reading.specs.declared.scope.Meaning.the-variants.{Is}
-use Rattle.reading.specs.Limits.{mostNodes}
-use Rattle.reading.specs.Text.{Line}
-use Rattle.reading.specs.Frames.{Judged, faulty, fine, byte, frameOf, freeNames, treeLines, frameIn}
-use Rattle.reading.specs.Scope.{Scope, giving, naming, inside}
-use Rattle.reading.specs.Rules.{nameIn, nodeIn}
 use Rattle.reading.specs.Tree.{Tree, silent, send, receive, sum, parallel, restriction, match, replication, bracket, listing, depth}
-use Rattle.reading.specs.Plan.{Outcome, refused, read, Place, rest, onward, judged, andThen, nextName, readNames, Grown, Reader, one, two, grow, nextNode, readTree}
-use Rattle.reading.specs.Promise.{NamesWithin, MarkerWithin, NodeWithin, EachWithin, IsGiven, Scoped, givenBy}
-use Rattle.reading.proofs.RulesWithin.{Judges, judges-cond, judges-on, some-line, NameWithin, name-within, ScopeWithin, NodeGood, node-within}
+use Rattle.reading.specs.Plan.{Outcome, refused, read, Place, onward, judged, andThen, readNames, Grown, Reader, one, two, grow, readTree}
+use Rattle.reading.specs.Promise.{NamesWithin, EachWithin, Scoped, givenBy}
 
 -- ---- what reading ends in, where lines are numbered up to m
 
@@ -48,7 +45,7 @@ ends-then m P Q (refused f) go-on h k = h
 ends-then m P Q (read a) go-on h k = k a h
 
 pub ends-judged : {A B : Type 0} (m : ℕ) (P : A → Type 0) (Q : B → Type 0) (place : Place) (j : Judged A) (go-on : A → Outcome B)
-    → Numbered m place → Judges P j → ((a : A) → P a → Ends m Q (go-on a)) → Ends m Q (judged place j go-on)
+    → Numbered m place → Gives P j → ((a : A) → P a → Ends m Q (go-on a)) → Ends m Q (judged place j go-on)
 ends-judged m P Q place (faulty n) go-on numbered h k = record { least = h .0; most = h .1; line = omega arith }
 ends-judged m P Q place (fine a) go-on numbered h k = k a h
 
@@ -66,60 +63,20 @@ pub names-within : (m : ℕ) (h : Head) (many least : ℕ) (place : Place) → N
 unfolding readNames
 names-within m h zero least place numbered = (refl, tt, numbered)
 names-within m h (suc many) least place numbered =
-    ends-judged m (λ f. NameWithin h least f × (0 < length (place .left))) _ place (nextName h least (place .left)) _ numbered
-    (judges-on (λ (frame : List ℕ). 0 < length (place .left)) (λ f. NameWithin h least f × (0 < length (place .left))) (frameIn freeNames (place .left)) (nameIn h least)
-    (some-line freeNames (place .left)) (λ frame some. both some (nameIn h least frame) (name-within h least (byte 1 frame) (byte 2 frame))))
+    ends-judged m (OnLine (place .left) (NameWithin h least)) _ place (nextName h least (place .left)) _ numbered (name-given (place .left) h least)
     (λ f w. ends-then m (λ n. (length (n .names) ≡ many) × NamesWithin h (f .name + 1) (n .names) × Numbered m (n .after)) _
     (readNames many h (f .name + 1) (onward place)) _
     (names-within m h many (f .name + 1) (onward place) (numbered-on m place (w .1) numbered))
-    (λ n g. (ap suc (g .0), (w .0 .0, w .0 .1, w .0 .2, g .1), g .2)))
-  where
-    both : 0 < length (place .left) → (j : Judged FreeName) → Judges (NameWithin h least) j → Judges (λ f. NameWithin h least f × (0 < length (place .left))) j
-    both some (faulty n) w = w
-    both some (fine f) w = (w, some)
+    (λ n g. (ap suc (g .0), (w .0, g .1), g .2)))
 
 -- ---- the scope
-
-giving-within : (h : Head) (given : List Marker) (scope : Scope) (name : ℕ) (m : Marker)
-    → ScopeWithin h given scope → MarkerWithin h m → ScopeWithin h (m ∷ given) (giving name m scope)
-giving-within h given scope name m within w other n e = go (eqb other name) e
-  where
-    go : (b : Bool) → cond b (Is m) (scope other) ≡ Is n → MarkerWithin h n × IsGiven (m ∷ given) n
-    go true e = let same : n ≡ m = cc in (subst (MarkerWithin h) (sym same) w, List·Memᴰ·head same)
-    go false e = let old = within other n e in (old .0, List·Memᴰ·tail (old .1))
 
 pub naming-within : (h : Head) (given : List Marker) (scope : Scope) (least : ℕ) (fs : List FreeName)
     → ScopeWithin h given scope → NamesWithin h least fs → ScopeWithin h (givenBy fs given) (naming scope fs)
 naming-within h given scope least [] within w = within
 naming-within h given scope least (f ∷ fs) within w =
     naming-within h (Channel (f .channel) ∷ given) (giving (f .name) (Channel (f .channel)) scope) (f .name + 1) fs
-    (giving-within h given scope (f .name) (Channel (f .channel)) within (w .2)) (w .3)
-
--- the markers given in a node's branches
-abbrev enclosed : Node → List Marker → List Marker
-enclosed Nil given = given
-enclosed Silent given = given
-enclosed (Send x y) given = given
-enclosed (Receive x y b) given = Binder b ∷ given
-enclosed Sum given = given
-enclosed Parallel given = given
-enclosed (Restriction x c) given = Channel c ∷ given
-enclosed (Match x y) given = given
-enclosed Replication given = given
-enclosed (Bracket l) given = given
-
-inside-within : (h : Head) (given : List Marker) (scope : Scope) (node : Node)
-    → ScopeWithin h given scope → NodeWithin h node → ScopeWithin h (enclosed node given) (inside node scope)
-inside-within h given scope Nil within w = within
-inside-within h given scope Silent within w = within
-inside-within h given scope (Send x y) within w = within
-inside-within h given scope (Receive x y b) within w = giving-within h given scope y (Binder b) within (w .2)
-inside-within h given scope Sum within w = within
-inside-within h given scope Parallel within w = within
-inside-within h given scope (Restriction x c) within w = giving-within h given scope x (Channel c) within (w .1)
-inside-within h given scope (Match x y) within w = within
-inside-within h given scope Replication within w = within
-inside-within h given scope (Bracket l) within w = within
+    (giving-within h given scope (f .name) (Channel (f .channel)) within (w .0 .2)) (w .1)
 
 -- ---- the tree
 
@@ -191,32 +148,15 @@ grow-within m h given d count Replication branch place w room numbered good =
 grow-within m h given d count (Bracket l) branch place w room numbered good =
     one-good m h given given d count (Bracket l) branch (w .0) good (bracket l) (λ p. refl) (λ p. refl) (λ p s. s) place numbered
 
--- a node on the next line: within the limits, on a line that is there, with room for it
-abbrev Steps : Head → List Marker → ℕ → List Line → Node → Type 0
-Steps h given count left n = NodeGood h given n × (count < mostNodes) × (0 < length left)
-
-next-within : (h : Head) (given : List Marker) (scope : Scope) (d count : ℕ) (left : List Line) → ScopeWithin h given scope
-    → Judges (Steps h given count left) (nextNode d h scope count left)
-unfolding nextNode
-next-within h given scope d count left within =
-    judges-on (λ (frame : List ℕ). 0 < length left) (Steps h given count left) (frameIn treeLines left) _ (some-line treeLines left)
-    (λ frame some. judges-cond (Steps h given count left) (leb mostNodes count) (faulty 10) (cond (eqb d 0) (faulty 11) (nodeIn h scope frame)) (λ e. omega arith)
-    (λ room. judges-cond (Steps h given count left) (eqb d 0) (faulty 11) (nodeIn h scope frame) (λ e. omega arith)
-    (λ deep. all (leb-false mostNodes count room) some (nodeIn h scope frame) (node-within h given scope within (frameOf (byte 0 frame) .kind) frame))))
-  where
-    all : count < mostNodes → 0 < length left → (j : Judged Node) → Judges (NodeGood h given) j → Judges (Steps h given count left) j
-    all room some (faulty n) w = w
-    all room some (fine n) w = (w, room, some)
-
 pub tree-within : (m : ℕ) (h : Head) (given : List Marker) (d : ℕ) (scope : Scope) (count : ℕ) (place : Place)
     → ScopeWithin h given scope → Numbered m place → Ends m (TreeGood m h given d count) (readTree d h scope count place)
 unfolding readTree
 tree-within m h given zero scope count place within numbered =
-    ends-judged m (Steps h given count (place .left)) (TreeGood m h given zero count) place (nextNode zero h scope count (place .left)) _ numbered
-    (next-within h given scope zero count (place .left) within)
+    ends-judged m (OnLine (place .left) (NodeNext h given count)) (TreeGood m h given zero count) place (nextNode zero h scope count (place .left)) _ numbered
+    (node-given (place .left) h given scope zero count within)
     (λ n w. record { least = omega arith; most = omega arith; line = omega arith })
 tree-within m h given (suc d) scope count place within numbered =
-    ends-judged m (Steps h given count (place .left)) (TreeGood m h given (suc d) count) place (nextNode (suc d) h scope count (place .left)) _ numbered
-    (next-within h given scope (suc d) count (place .left) within)
-    (λ n w. grow-within m h given d count n (readTree d h (inside n scope)) (onward place) (w .0) (w .1) (numbered-on m place (w .2) numbered)
-    (λ k p q. tree-within m h (enclosed n given) d (inside n scope) k p (inside-within h given scope n within (w .0 .0)) q))
+    ends-judged m (OnLine (place .left) (NodeNext h given count)) (TreeGood m h given (suc d) count) place (nextNode (suc d) h scope count (place .left)) _ numbered
+    (node-given (place .left) h given scope (suc d) count within)
+    (λ n w. grow-within m h given d count n (readTree d h (inside n scope)) (onward place) (w .0 .0) (w .0 .1) (numbered-on m place (w .1) numbered)
+    (λ k p q. tree-within m h (enclosed n given) d (inside n scope) k p (inside-within h given scope n within (w .0 .0 .0)) q))

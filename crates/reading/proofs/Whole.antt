@@ -2,35 +2,45 @@
 use Prim.Native.Nat.{ℕ, _+_, _≤_, _<_}
 use mathlib.Core.Path.{_≡_, refl, sym, ap, _∙_, subst}
 use mathlib.Core.Bool.{true, false}
-use mathlib.Core.List.{List, map}
+use mathlib.Core.List.{List, _++_, map}
 use native.Mathlib.Omega.{arith}
 use lib.Dec.{ltb, eqb}
-use lib.ListN.{length, length-map, replicate}
-use lib.Seq.{sets}
+use lib.ListN.{length, drop, length-map, replicate, length-replicate}
+use lib.Seq.{sets, sets-eq}
 use borrow.Author.Tests.{ltb-false}
-use Rattle.reading.specs.declared.Head.{Head}
-use Rattle.reading.specs.declared.Node.the-variants.{Nil}
+use Rattle.lines.specs.declared.Head.{Head}
+use Rattle.lines.specs.declared.Node.the-variants.{Nil}
+use Rattle.lines.specs.declared.Opening.{Opening}
+use Rattle.limits.specs.Limits.{longest, mostNames, mostNodes, mostDepth}
+use Rattle.lines.specs.Frames.{fine}
+use Rattle.lines.specs.Scope.{noNames, naming}
+use Rattle.lines.specs.Line.{firstHead}
+use Rattle.lines.specs.Values.{restAt, openingOf, meaningIn}
+use Rattle.lines.specs.Promise.{Gives, OnLine, LineWhole, HeadWithin}
+use Rattle.lines.proofs.Lists.{drop-replicate}
+use Rattle.lines.proofs.Tests.{or-false}
+use Rattle.lines.proofs.Promise.{rest-none, rest-split, opening-faulty, opening-found, head-given, head-whole}
 use Rattle.reading.specs.declared.Reading.{Reading}
 use Rattle.reading.specs.declared.cursor.Cursor.{Cursor}
 use Rattle.reading.specs.declared.names.Names.{Names}
-use Rattle.reading.specs.declared.rules.Opening.{Opening}
 use Rattle.reading.specs.declared.tree.State.{State}
-use Rattle.reading.specs.Frames.{Judged, faulty, fine, andOn, firstLine, frameIn}
-use Rattle.reading.specs.Limits.{longest, mostNames, mostNodes, mostDepth}
-use Rattle.reading.specs.Scope.{noNames, naming}
-use Rattle.reading.specs.Rules.{headIn}
 use Rattle.reading.specs.Tree.{listing}
-use Rattle.reading.specs.Plan.{Outcome, refused, read, Named, readNames, Grown, readTree, Plan, closed, firstHead, afterHead, readPlan, wrongLength, planIn, padded, noName, slot, readingOf}
-use Rattle.reading.specs.Promise.{HeadWithin, PlanWithin}
-use Rattle.reading.specs.Working.{restAt, endAt, meaningIn, openingOf, Stands, placeAt, Past, FreshNames, Gathered, Gathers, FreshState, Grew, Grows}
-use Rattle.reading.proofs.Tests.{or-false}
-use Rattle.reading.proofs.Lines.{rest-none, rest-split}
-use Rattle.reading.proofs.Table.{framing}
+use Rattle.reading.specs.Plan.{Outcome, refused, read, Named, readNames, Grown, readTree, Plan, closed, afterHead, readPlan, wrongLength, planIn, padded, noName, slot, noRefusal, readingOf}
+use Rattle.reading.specs.Promise.{PlanWithin}
+use Rattle.reading.specs.inner.Working.{StandsIn, placeAt, Past, FreshNames, Gathered, Gathers, FreshState, Grew, Grows}
 use Rattle.reading.proofs.Growing.{onward-past, true-not-false}
-use Rattle.reading.proofs.Stores.{pad}
-use Rattle.reading.proofs.RulesWithin.{Judges}
 use Rattle.reading.proofs.TreeWithin.{Ends}
-use Rattle.reading.proofs.Promise.{after-within, first-within}
+use Rattle.reading.proofs.Promise.{after-within}
+
+-- ---- a list stored in a blank array from its start is that list, padded
+
+pad : {A : Type 0} (n : ℕ) (d : A) (xs : List A) → length xs ≤ n → sets (replicate n d) 0 xs ≡ padded n d xs
+unfolding padded
+pad n d xs h =
+    let room : 0 + length xs ≤ length (replicate n d) = rw length-replicate (omega arith) in
+    let here : 0 + length xs ≡ length xs = omega arith in
+    sets-eq xs (replicate n d) 0 room
+    ∙ ap (λ (l : List _). xs ++ l) (ap (λ (k : ℕ). drop k (replicate n d)) here ∙ drop-replicate (length xs) n d)
 
 -- ---- a section's state tells how its reading ended
 
@@ -67,7 +77,7 @@ module _ (s : List ℕ) (h : Head) (cursor : Cursor) (within : HeadWithin h)
     done : (n : Named) × (readNames (h .names) h 0 (placeAt s cursor) ≡ read n) × Gathered s none n names
     done = names-done s none names (readNames (h .names) h 0 (placeAt s cursor)) gathers-there good
 
-    pub names-stand : Stands s (names .cursor)
+    pub names-stand : StandsIn s (names .cursor)
     names-stand = done .2 .stands
 
     module _ (bare state : State) (clear : FreshState (names .cursor) bare)
@@ -98,7 +108,8 @@ module _ (s : List ℕ) (h : Head) (cursor : Cursor) (within : HeadWithin h)
         pub after-more : state .cursor .at < length s → refused (record { number = 13; line = state .cursor .line }) ≡ afterHead h (placeAt s cursor)
         after-more l = sym (ends ∙ rw (rest-split s (state .cursor .at) l))
 
-        pub after-all : (r : Reading) → length s ≤ state .cursor .at → r ≡ record { refusal = record { number = 0; line = 0 }; head = h; names = names .names; count = state .count; nodes = state .nodes }
+        pub after-all : (r : Reading) → length s ≤ state .cursor .at
+            → r ≡ record { refusal = noRefusal; head = h; names = names .names; count = state .count; nodes = state .nodes }
             → r ≡ readingOf (afterHead h (placeAt s cursor))
         unfolding plan
         after-all r l made =
@@ -117,18 +128,10 @@ module _ (s : List ℕ) (h : Head) (cursor : Cursor) (within : HeadWithin h)
             let nodes : state .nodes ≡ padded mostNodes (slot Nil) (map slot (listing (whole .0 .tree))) =
             whole .2 .nodes ∙ pad mostNodes (slot Nil) (map slot (listing (whole .0 .tree))) (rw (length-map (listing (whole .0 .tree)) slot) few) in
             made
-            ∙ (λ i. record { refusal = record { number = 0; line = 0 }; head = h; names = listed i; count = total i; nodes = nodes i })
+            ∙ (λ i. record { refusal = noRefusal; head = h; names = listed i; count = total i; nodes = nodes i })
             ∙ ap readingOf (sym all)
 
 -- ---- the whole text, by what the first line said
-
-opening-faulty : (j : Judged Head) (w : ℕ) → openingOf j ≡ Opening.Faulty w → j ≡ faulty w
-opening-faulty (faulty n) w e = cc
-opening-faulty (fine n) w e = let z : _≡_ {A = ℕ} 0 1 = cc in absurd (omega arith)
-
-opening-found : (j : Judged Head) (h : Head) → openingOf j ≡ Opening.Found h → j ≡ fine h
-opening-found (faulty n) h e = let z : _≡_ {A = ℕ} 0 1 = cc in absurd (omega arith)
-opening-found (fine n) h e = cc
 
 abbrev start : Cursor
 start = record { at = 0; line = 1 }
@@ -156,14 +159,12 @@ module _ (s : List ℕ) where
       head-there = opening-found (firstHead (restAt s 0)) h (sym said ∙ e)
 
       -- the head is within its limits, and its line is whole
-      pub text-head : HeadWithin h × (endAt s 0 < length s)
-      text-head = (subst (Judges (λ g. HeadWithin g × (0 < length (restAt s 0)))) head-there (first-within (restAt s 0)) .0, go (frameIn firstLine (restAt s 0)) refl head-there)
-        where
-          go : (j : Judged (List ℕ)) → frameIn firstLine (restAt s 0) ≡ j → andOn j headIn ≡ fine h → endAt s 0 < length s
-          go (faulty n) q r = let z : _≡_ {A = ℕ} 0 1 = cc in absurd (omega arith)
-          go (fine bytes) q r = framing s firstLine 0 bytes q .inside
+      pub text-head : HeadWithin h × LineWhole s 0
+      text-head =
+          let within = subst (Gives (OnLine (restAt s 0) HeadWithin)) head-there (head-given (restAt s 0)) in
+          (within .0, head-whole s 0 h head-there)
 
       pub text-read : (next : Cursor) → Past s start next → afterHead h (placeAt s next) ≡ planIn s
       unfolding readPlan
       text-read next past =
-          sym (plan-there ∙ rw (head-there, onward-past s start next (let inside = text-head .1 in omega arith) past))
+          sym (plan-there ∙ rw (head-there, onward-past s start next (text-head .1 .here) past))

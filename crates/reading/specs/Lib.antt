@@ -1,10 +1,5 @@
--- What a plan text says: document 01's 'Plan text' and 'Refusal numbers', in their order.
-pub mod Limits
-pub mod Text
-pub mod Frames
-pub mod Scope
+-- What a plan text says: document 01's 'Plan text' and 'Refusal numbers', in their order, over what the crate `lines` says of each line.
 pub mod Tree
-pub mod Rules
 pub mod Plan
 pub mod Promise
-pub mod Working
+pub mod inner

@@ -1,22 +1,22 @@
--- Document 01, 'Plan text' and 'Refusal numbers': from a text to a plan or its one refusal, with the order in which refusals are judged.
+-- Document 01, 'Plan text' and 'Refusal numbers': from a text to a plan or its one refusal, line by line in order; what one line says is the crate `lines`.
 -- Assumes nothing.
 use Prim.Native.Nat.{ℕ, zero, suc, _+_, _-_}
 use mathlib.Core.Bool.{Bool, cond, _||_}
 use mathlib.Core.List.{List, [], _∷_, _++_, map}
 use lib.ListN.{length, replicate}
-use lib.Dec.{leb, ltb, eqb}
-use Rattle.reading.specs.declared.FreeName.{FreeName}
-use Rattle.reading.specs.declared.Head.{Head}
-use Rattle.reading.specs.declared.Node.{Node}
-use Rattle.reading.specs.declared.Node.the-variants.{Nil, Silent, Send, Receive, Sum, Parallel, Restriction, Match, Replication, Bracket}
+use lib.Dec.{ltb, eqb}
+use Rattle.lines.specs.declared.FreeName.{FreeName}
+use Rattle.lines.specs.declared.Head.{Head}
+use Rattle.lines.specs.declared.Node.{Node}
+use Rattle.lines.specs.declared.Node.the-variants.{Nil, Silent, Send, Receive, Sum, Parallel, Restriction, Match, Replication, Bracket}
+use Rattle.limits.specs.Limits.{longest, mostNames, mostNodes, mostDepth}
+use Rattle.lines.specs.Text.{Line, linesOf, rest}
+use Rattle.lines.specs.Frames.{Judged, faulty, fine}
+use Rattle.lines.specs.Scope.{Scope, noNames, naming, inside}
+use Rattle.lines.specs.Line.{firstHead, nextName, nextNode}
 use Rattle.reading.specs.declared.Reading.{Reading}
 use Rattle.reading.specs.declared.Refusal.{Refusal}
 use Rattle.reading.specs.declared.Slot.{Slot}
-use Rattle.reading.specs.Limits.{longest, mostNames, mostNodes, mostDepth}
-use Rattle.reading.specs.Text.{Line, linesOf}
-use Rattle.reading.specs.Frames.{Judged, faulty, fine, andOn, firstLine, freeNames, treeLines, frameIn}
-use Rattle.reading.specs.Scope.{Scope, noNames, naming, inside}
-use Rattle.reading.specs.Rules.{headIn, nameIn, nodeIn}
 use Rattle.reading.specs.Tree.{Tree, nil, silent, send, receive, sum, parallel, restriction, match, replication, bracket, listing}
 
 -- what reading ends in: a refusal, or what was read
@@ -28,10 +28,6 @@ pub data Outcome (A : Type 0) : Type 0 where
 pub record Place : Type 0 where
   pub line : ℕ
   pub left : List Line
-
-abbrev pub rest : List Line → List Line
-rest [] = []
-rest (l ∷ ls) = ls
 
 -- one line on
 abbrev pub onward : Place → Place
@@ -59,10 +55,6 @@ pub record Named : Type 0 where
 
 abbrev pub before : FreeName → Named → Named
 before f n = record { names = f ∷ n .names; after = n .after }
-
--- the free name on the next line
-abbrev pub nextName : Head → ℕ → List Line → Judged FreeName
-nextName h least left = andOn (frameIn freeNames left) (nameIn h least)
 
 -- `many` free names, each `least` or more, strictly ascending
 unfoldable pub readNames : ℕ → Head → ℕ → Place → Outcome Named
@@ -105,12 +97,6 @@ grow (Match x y) branch = one (match x y) branch
 grow Replication branch = one replication branch
 grow (Bracket l) branch = one (bracket l) branch
 
--- the node on the next line, with so much depth left and so many nodes read: 10, 11, then its own rule
-unfoldable pub nextNode : ℕ → Head → Scope → ℕ → List Line → Judged Node
-nextNode depth h scope count left =
-    andOn (frameIn treeLines left) λ frame.
-    cond (leb mostNodes count) (faulty 10) (cond (eqb depth 0) (faulty 11) (nodeIn h scope frame))
-
 -- a tree of at most so much depth
 unfoldable pub readTree : ℕ → Head → Scope → Reader
 readTree zero h scope count place = judged place (nextNode zero h scope count (place .left)) λ node. refuse place 11
@@ -130,10 +116,6 @@ pub record Plan : Type 0 where
 abbrev pub closed : Place → List Line → Plan → Outcome Plan
 closed place [] plan = read plan
 closed place (l ∷ ls) plan = refuse place 13
-
--- the head, on the first line
-abbrev pub firstHead : List Line → Judged Head
-firstHead left = andOn (frameIn firstLine left) headIn
 
 -- what follows the head: the free names, the tree, and nothing more
 unfoldable pub afterHead : Head → Place → Outcome Plan

@@ -3,60 +3,31 @@
 -- Assumes nothing.
 use Prim.Native.Nat.{ℕ, _+_, _^_, _≤_, _<_}
 use mathlib.Core.Path.{_≡_}
-use mathlib.Core.List.{List, [], _∷_, List·Memᴰ}
+use mathlib.Core.List.{List, [], _∷_}
 use lib.ListN.{length}
-use Rattle.reading.specs.declared.Marker.{Marker}
-use Rattle.reading.specs.declared.Marker.the-variants.{Channel, Binder}
-use Rattle.reading.specs.declared.Node.{Node}
-use Rattle.reading.specs.declared.Node.the-variants.{Nil, Silent, Send, Receive, Sum, Parallel, Restriction, Match, Replication, Bracket}
-use Rattle.reading.specs.declared.Head.{Head}
-use Rattle.reading.specs.declared.FreeName.{FreeName}
-use Rattle.reading.specs.Limits.{mostChannels, mostBinders, highestLevel, highestName, mostNames, mostNodes, mostDepth}
+use Rattle.lines.specs.declared.FreeName.{FreeName}
+use Rattle.lines.specs.declared.Head.{Head}
+use Rattle.lines.specs.declared.Marker.{Marker}
+use Rattle.lines.specs.declared.Marker.the-variants.{Channel, Binder}
+use Rattle.lines.specs.declared.Node.{Node}
+use Rattle.limits.specs.Limits.{mostNodes, mostDepth}
+use Rattle.lines.specs.Promise.{HeadWithin, NameWithin, NodeWithin, IsGiven}
 use Rattle.reading.specs.Tree.{Tree, nil, silent, send, receive, sum, parallel, restriction, match, replication, bracket, listing, depth}
 use Rattle.reading.specs.Plan.{Outcome, refused, read, Plan}
 
 -- ---- the limits
 
-pub record HeadWithin (h : Head) : Type 0 where
-  pub some : 1 ≤ h .channels
-  pub channels : h .channels ≤ mostChannels
-  pub binders : h .binders ≤ mostBinders
-  pub top : h .top ≤ highestLevel
-  pub names : h .names ≤ mostNames
-
--- names at most 63, channels below C, and strictly ascending from `least` on
+-- each within the limits, and strictly ascending from `least` on
 abbrev pub NamesWithin : Head → ℕ → List FreeName → Type 0
 NamesWithin h least [] = Unit {0}
 NamesWithin h least (f ∷ fs) =
-    (least ≤ f .name) × (f .name ≤ highestName) × (f .channel < h .channels) × NamesWithin h (f .name + 1) fs
-
--- a channel below C, a binder below B
-abbrev pub MarkerWithin : Head → Marker → Type 0
-MarkerWithin h (Channel c) = c < h .channels
-MarkerWithin h (Binder b) = b < h .binders
-
--- names at most 63, channels below C, binders below B, levels at most k
-abbrev pub NodeWithin : Head → Node → Type 0
-NodeWithin h Nil = Unit {0}
-NodeWithin h Silent = Unit {0}
-NodeWithin h (Send x y) = MarkerWithin h x × MarkerWithin h y
-NodeWithin h (Receive x y b) = MarkerWithin h x × (y ≤ highestName) × (b < h .binders)
-NodeWithin h Sum = Unit {0}
-NodeWithin h Parallel = Unit {0}
-NodeWithin h (Restriction x c) = (x ≤ highestName) × (c < h .channels)
-NodeWithin h (Match x y) = MarkerWithin h x × MarkerWithin h y
-NodeWithin h Replication = Unit {0}
-NodeWithin h (Bracket l) = l ≤ h .top
+    NameWithin h least f × NamesWithin h (f .name + 1) fs
 
 abbrev pub EachWithin : Head → List Node → Type 0
 EachWithin h [] = Unit {0}
 EachWithin h (n ∷ ns) = NodeWithin h n × EachWithin h ns
 
 -- ---- the givers of markers
-
--- the marker is one of those given
-abbrev pub IsGiven : List Marker → Marker → Type 0
-IsGiven given m = List·Memᴰ m given
 
 -- each marker in the tree is given outside it, or by an enclosing receive or restriction in it
 abbrev pub Scoped : List Marker → Tree → Type 0

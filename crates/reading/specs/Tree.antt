@@ -2,9 +2,9 @@
 -- Assumes nothing.
 use Prim.Native.Nat.{ℕ, suc, max}
 use mathlib.Core.List.{List, [], _∷_, _++_}
-use Rattle.reading.specs.declared.Marker.{Marker}
-use Rattle.reading.specs.declared.Node.{Node}
-use Rattle.reading.specs.declared.Node.the-variants.{Nil, Silent, Send, Receive, Sum, Parallel, Restriction, Match, Replication, Bracket}
+use Rattle.lines.specs.declared.Marker.{Marker}
+use Rattle.lines.specs.declared.Node.{Node}
+use Rattle.lines.specs.declared.Node.the-variants.{Nil, Silent, Send, Receive, Sum, Parallel, Restriction, Match, Replication, Bracket}
 
 -- how many branches a node has
 abbrev pub branchCount : Node → ℕ

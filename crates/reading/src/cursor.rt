@@ -2,9 +2,10 @@
 ghost use mathlib.Core.Path.{_≡_};
 ghost use Prim.Native.Nat.{_<_};
 ghost use lib.ListN.{length};
-ghost use Rattle.reading.specs.Working.{endAt, Stands, Past};
+ghost use Rattle.lines.specs.Values.{endAt};
+ghost use Rattle.reading.specs.inner.Working.{StandsIn, Past};
 use crate::Refusal;
-use crate::text::line_end;
+use lines::text::line_end;
 
 // The position of a line's start, and the line's number.
 pub(crate) struct Cursor {
@@ -14,8 +15,8 @@ pub(crate) struct Cursor {
 
 // One line on, where a line feed ends the line.
 pub(crate) fn past(text: &[u8], cursor: Cursor) -> Cursor
-    requires { ⌜ Stands (now text) cursor × (endAt (now text) (cursor .at) < length (now text)) ⌝ }
-    ensures { λ r. ⌜ Past (now (text .entry)) cursor r × Stands (now (text .entry)) r ⌝ }
+    requires { ⌜ StandsIn (now text) cursor × (endAt (now text) (cursor .at) < length (now text)) ⌝ }
+    ensures { λ r. ⌜ Past (now (text .entry)) cursor r × StandsIn (now (text .entry)) r ⌝ }
 {
     Cursor {
         at: line_end(text, cursor.at) + 1,

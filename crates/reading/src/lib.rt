@@ -1,74 +1,35 @@
 // Reads a plan text: every text gets a reading, or one numbered refusal by document 01's order.
-// The way of the data: text (lines and bytes), cursor (where reading stands), frames (the table), scope and rules (what a line says),
-// names and tree (the sections), and the whole text here. Proved: `read` returns the document's reading of the text.
+// The way of the data: cursor (where reading stands), names and tree (the sections, read line by line by the crate `lines`), and the whole text
+// here. Proved: `read` returns the document's reading of the text.
 ghost use mathlib.Core.Path.{_≡_};
-ghost use Rattle.reading.specs.Plan.{Outcome, wrongLength, firstHead, afterHead, planIn, readingOf};
-ghost use Rattle.reading.specs.Promise.{HeadWithin};
-ghost use Rattle.reading.specs.Working.{restAt, openingOf, Stands, placeAt, FreshNames, FreshState};
+ghost use Rattle.lines.specs.Promise.{HeadWithin};
+ghost use Rattle.reading.specs.Plan.{Outcome, wrongLength, afterHead, planIn, readingOf};
+ghost use Rattle.reading.specs.inner.Working.{StandsIn, placeAt, FreshNames, FreshState};
 use crate::cursor::Cursor;
 use crate::cursor::past;
 use crate::cursor::refuse;
-use crate::frames::FIRST_LINE;
-use crate::frames::Framed;
-use crate::frames::frame_in;
-use crate::limits::LONGEST;
-use crate::limits::MOST_DEPTH;
-use crate::limits::MOST_NAMES;
-use crate::limits::MOST_NODES;
 use crate::names::Names;
 use crate::names::read_names;
-use crate::rules::Opening;
-use crate::rules::head_in;
-use crate::scope::no_names;
 use crate::tree::State;
 use crate::tree::read_node;
+use limits::LONGEST;
+use limits::MOST_DEPTH;
+use limits::MOST_NAMES;
+use limits::MOST_NODES;
+use lines::FreeName;
+use lines::Head;
+use lines::Node;
+use lines::Opening;
+use lines::first_head;
+use lines::scope::no_names;
 
 mod cursor;
-mod frames;
-mod limits;
 mod names;
-mod rules;
-mod scope;
-mod text;
 mod tree;
-
-// What a name stands for: a channel, or a receive's binder.
-pub enum Marker {
-    Channel(u8),
-    Binder(u8),
-}
-
-// A node of the tree, with the numbers of its frame and the markers of the names it uses.
-pub enum Node {
-    Nil,
-    Silent,
-    Send(Marker, Marker),
-    Receive(Marker, u8, u8),
-    Sum,
-    Parallel,
-    Restriction(u8, u8),
-    Match(Marker, Marker),
-    Replication,
-    Bracket(u8),
-}
 
 // A place for one node.
 pub struct Slot {
     pub node: Node,
-}
-
-// The head's numbers: C channels, B binders, levels 0 to k (the top), F free names.
-pub struct Head {
-    pub channels: u8,
-    pub binders: u8,
-    pub top: u8,
-    pub names: u8,
-}
-
-// A free name and its channel.
-pub struct FreeName {
-    pub name: u8,
-    pub channel: u8,
 }
 
 // Why a text is refused, and on which line; number 0 where it isn't.
@@ -152,19 +113,9 @@ fn fresh_state(cursor: Cursor) -> State
     }
 }
 
-// What the first line says.
-fn first_head(text: &[u8]) -> Opening
-    ensures { λ r. ⌜ r ≡ openingOf (firstHead (restAt (now (text .entry)) 0)) ⌝ }
-{
-    match frame_in(text, FIRST_LINE, 0) {
-        Framed::Faulty(number) => Opening::Faulty(number),
-        Framed::Frame(_) => head_in(text, 0),
-    }
-}
-
 // What follows the head.
 fn after_head(text: &[u8], head: Head, cursor: Cursor) -> Reading
-    requires { ⌜ HeadWithin head × Stands (now text) cursor ⌝ }
+    requires { ⌜ HeadWithin head × StandsIn (now text) cursor ⌝ }
     ensures { λ r. ⌜ r ≡ readingOf (afterHead head (placeAt (now (text .entry)) cursor)) ⌝ }
 {
     let names = read_names(text, head, head.names as usize, 0, fresh_names(cursor));
@@ -210,7 +161,7 @@ pub fn read(text: &[u8]) -> Reading
         return refused(refuse(nowhere, 1));
     }
     let start = Cursor { at: 0, line: 1 };
-    match first_head(text) {
+    match first_head(text, 0) {
         Opening::Faulty(number) => refused(refuse(start, number)),
         Opening::Found(head) => after_head(text, head, past(text, start)),
     }

@@ -2,24 +2,21 @@
 ghost use mathlib.Core.Path.{_≡_};
 ghost use mathlib.Core.Bool.{true, false};
 ghost use Prim.Native.Nat.{_+_, _≤_};
-ghost use Rattle.reading.specs.Limits.{mostNames};
-ghost use Rattle.reading.specs.Plan.{nextName, readNames};
-ghost use Rattle.reading.specs.Working.{restAt, entryOf, Stands, placeAt, Gathers};
-use crate::FreeName;
-use crate::Head;
-use crate::Marker;
+ghost use Rattle.limits.specs.Limits.{mostNames};
+ghost use Rattle.reading.specs.Plan.{readNames};
+ghost use Rattle.reading.specs.inner.Working.{StandsIn, placeAt, Gathers};
 use crate::Refusal;
 use crate::cursor::Cursor;
 use crate::cursor::past;
 use crate::cursor::refuse;
-use crate::frames::FREE_NAMES;
-use crate::frames::Framed;
-use crate::frames::frame_in;
-use crate::limits::MOST_NAMES;
-use crate::rules::Entry;
-use crate::rules::name_in;
-use crate::scope::Given;
-use crate::scope::give;
+use limits::MOST_NAMES;
+use lines::Entry;
+use lines::FreeName;
+use lines::Head;
+use lines::Marker;
+use lines::next_name;
+use lines::scope::Scope;
+use lines::scope::give;
 
 // The free names read so far and the scope that they make, or a refusal.
 pub(crate) struct Names {
@@ -28,7 +25,7 @@ pub(crate) struct Names {
     pub(crate) cursor: Cursor,
     pub(crate) count: usize,
     pub(crate) names: [FreeName; MOST_NAMES],
-    pub(crate) scope: [Given; 256],
+    pub(crate) scope: Scope,
 }
 
 // The same, refused.
@@ -41,19 +38,9 @@ fn refused(state: Names, refusal: Refusal) -> Names
     stopped
 }
 
-// What the line at `at` says as a free name's, which has to be `least` or more.
-fn next_name(text: &[u8], at: usize, head: Head, least: usize) -> Entry
-    ensures { λ r. ⌜ r ≡ entryOf (nextName head least (restAt (now (text .entry)) at)) ⌝ }
-{
-    match frame_in(text, FREE_NAMES, at) {
-        Framed::Faulty(number) => Entry::Faulty(number),
-        Framed::Frame(_) => name_in(text, at, head, least),
-    }
-}
-
 // What was read before, with `many` free names more, each `least` or more.
 pub(crate) fn read_names(text: &[u8], head: Head, many: usize, least: usize, state: Names) -> Names
-    requires { ⌜ Stands (now text) (state .cursor) × (state .count + many ≤ mostNames) × (state .good ≡ true) ⌝ }
+    requires { ⌜ StandsIn (now text) (state .cursor) × (state .count + many ≤ mostNames) × (state .good ≡ true) ⌝ }
     ensures { λ r. ⌜ Gathers (now (text .entry)) state (readNames many head least (placeAt (now (text .entry)) (state .cursor))) r ⌝ }
 {
     if many == 0 {

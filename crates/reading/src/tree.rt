@@ -1,24 +1,22 @@
 // The tree, read node by node: a node reads its branches, first before second.
 ghost use mathlib.Core.Path.{_≡_};
 ghost use mathlib.Core.Bool.{false};
+ghost use Rattle.lines.specs.Values.{meaningIn};
 ghost use Rattle.reading.specs.Tree.{branchCount};
-ghost use Rattle.reading.specs.Plan.{nextNode, readTree};
-ghost use Rattle.reading.specs.Working.{restAt, stepOf, meaningIn, Stands, placeAt, Grows, Branches};
-use crate::Head;
-use crate::Node;
+ghost use Rattle.reading.specs.Plan.{readTree};
+ghost use Rattle.reading.specs.inner.Working.{StandsIn, placeAt, Grows, Branches};
 use crate::Refusal;
 use crate::Slot;
 use crate::cursor::Cursor;
 use crate::cursor::past;
 use crate::cursor::refuse;
-use crate::frames::Framed;
-use crate::frames::TREE_LINES;
-use crate::frames::frame_in;
-use crate::limits::MOST_NODES;
-use crate::rules::Step;
-use crate::rules::node_in;
-use crate::scope::Given;
-use crate::scope::enter;
+use limits::MOST_NODES;
+use lines::Head;
+use lines::Node;
+use lines::Step;
+use lines::next_node;
+use lines::scope::Scope;
+use lines::scope::enter;
 
 // The nodes read so far, or a refusal.
 pub(crate) struct State {
@@ -57,40 +55,9 @@ fn branches_of(node: Node) -> u8
     }
 }
 
-// What the line at `at` says as a node's, with `depth` left and `count` nodes read.
-fn next_node(
-    text: &[u8],
-    at: usize,
-    depth: usize,
-    head: Head,
-    scope: [Given; 256],
-    count: usize,
-) -> Step
-    ensures { λ r. ⌜ r ≡ stepOf (nextNode depth head (meaningIn scope) count (restAt (now (text .entry)) at)) ⌝ }
-{
-    match frame_in(text, TREE_LINES, at) {
-        Framed::Faulty(number) => Step::Faulty(number),
-        Framed::Frame(frame) => {
-            if MOST_NODES <= count {
-                return Step::Faulty(10);
-            }
-            if depth == 0 {
-                return Step::Faulty(11);
-            }
-            node_in(text, at, frame, head, scope)
-        }
-    }
-}
-
 // What was read before, with a tree more, of which `depth` may be used.
-pub(crate) fn read_node(
-    text: &[u8],
-    head: Head,
-    scope: [Given; 256],
-    depth: usize,
-    state: State,
-) -> State
-    requires { ⌜ Stands (now text) (state .cursor) ⌝ }
+pub(crate) fn read_node(text: &[u8], head: Head, scope: Scope, depth: usize, state: State) -> State
+    requires { ⌜ StandsIn (now text) (state .cursor) ⌝ }
     ensures { λ r. ⌜ Grows (now (text .entry)) (state .nodes) (state .count) (readTree depth head (meaningIn scope) (state .count) (placeAt (now (text .entry)) (state .cursor))) r ⌝ }
 {
     let cursor = state.cursor;
@@ -120,12 +87,12 @@ pub(crate) fn read_node(
 fn read_branches(
     text: &[u8],
     head: Head,
-    scope: [Given; 256],
+    scope: Scope,
     depth: usize,
     many: u8,
     state: State,
 ) -> State
-    requires { ⌜ Stands (now text) (state .cursor) ⌝ }
+    requires { ⌜ StandsIn (now text) (state .cursor) ⌝ }
     ensures { λ r. ⌜ Branches many (now (text .entry)) state (readTree depth head (meaningIn scope)) r ⌝ }
 {
     if many == 0 {

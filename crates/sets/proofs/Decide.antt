@@ -1,6 +1,6 @@
 -- Answers that decide.
 -- Assumes nothing.
-use mathlib.Core.Path.{_≡_, sym, subst}
+use mathlib.Core.Path.{_≡_, refl, sym, subst}
 use mathlib.Core.Logic.{_↔_, _≢_}
 use mathlib.Core.Bool.{Bool, true, false, not}
 use Prim.Native.Nat.{ℕ}
@@ -26,3 +26,10 @@ says-unequal m n h = record {
   yes = λ e. h .1 (eqb-false m n (not-true (eqb m n) e));
   no = λ e p. h .0 p (eqb-true m n (not-false (eqb m n) e));
 }
+
+-- any two answers that decide the same are equal
+pub decides-once : (a b : Bool) {P : Type 0} → Decides a P → Decides b P → a ≡ b
+decides-once true true p q = refl
+decides-once true false p q = absurd (q .no refl (p .yes refl))
+decides-once false true p q = absurd (p .no refl (q .yes refl))
+decides-once false false p q = refl

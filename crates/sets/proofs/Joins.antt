@@ -1,15 +1,16 @@
--- Rows that sets are joined into: nothing joined, the same joined by another name, one set joined at one place.
+-- Rows that sets are joined into: nothing joined, the same joined by another name, one set joined at one place. And rows that are copied.
 -- Assumes nothing.
-use mathlib.Core.Path.{_≡_, sym, subst}
+use mathlib.Core.Path.{_≡_, sym, subst, subst⁻¹, _∙_}
 use mathlib.Core.List.{List}
 use mathlib.Core.Logic.{_↔_, _⊎_, inl, inr, ⊎-elim}
-use Prim.Native.Nat.{ℕ, _<_}
+use Prim.Native.Nat.{ℕ, _+_, _<_}
 use native.Mathlib.Decide.{ℕ-discrete}
+use native.Mathlib.Omega.{arith}
 use lib.Bits.{bitOr}
 use lib.ListN.{length, getD, set}
 use lib.Seq.{getD-set-same, getD-set-other}
 use Rattle.sets.specs.Set.{Has}
-use Rattle.sets.specs.Rows.{Joins}
+use Rattle.sets.specs.Rows.{Joins, Only}
 use Rattle.sets.proofs.Members.{has-or}
 
 pub joins-none : (row : List ℕ) {W : ℕ → ℕ → Type 0} → ((i o : ℕ) → W i o → ⊥) → Joins row row W
@@ -50,3 +51,20 @@ joins-set {row} {W} {U} l at v j lt e = record { joins = λ i o. go i o (ℕ-dis
       where
         there : getD new i 0 ≡ getD l i 0
         there = getD-set-other l at i (bitOr (getD l at 0) v) 0 q
+
+-- places copied one after the other
+
+pub copied-more : (row t : List ℕ) (start i : ℕ) → i < length row → ((k : ℕ) → k < i → getD row k 0 ≡ getD t (start + k) 0)
+    → (k : ℕ) → k < i + 1 → getD (set row i (getD t (start + i) 0)) k 0 ≡ getD t (start + k) 0
+copied-more row t start i fits h k l = go (ℕ-discrete k i)
+  where
+    v : ℕ
+    v = getD t (start + i) 0
+
+    go : Dec (k ≡ i) → getD (set row i v) k 0 ≡ getD t (start + k) 0
+    go (yes q) = subst⁻¹ (λ n. getD (set row i v) n 0 ≡ getD t (start + n) 0) q (getD-set-same row i v 0 fits)
+    go (no q) = getD-set-other row i k v 0 q ∙ h k (omega arith)
+
+-- a set joined at one place, and nothing before
+pub joins-one : (row : List ℕ) (at v : ℕ) → at < length row → Joins row (set row at (bitOr (getD row at 0) v)) (Only at v)
+joins-one row at v lt = joins-set row at v (joins-none row {W = λ i o. ⊥} (λ i o w. w)) lt (λ i o. (inr, ⊎-elim absurd (λ z. z)))

@@ -5,8 +5,8 @@ pub mod Members
 pub mod Minimum
 pub mod Width
 pub mod Removal
-pub mod Sums
-pub mod Size
 pub mod Joins
+pub mod SameRows
 pub mod Taking
 pub mod Once
+pub mod Computed

@@ -1,4 +1,4 @@
--- The members of the empty set, a union, an intersection and a singleton; that sets with the same members are equal; subsets.
+-- The members of the empty set, a union, an intersection and a singleton; and that sets with the same members are equal.
 -- Assumes nothing.
 use mathlib.Core.Path.{_≡_, refl, sym, ap, _∙_, subst}
 use mathlib.Core.Logic.{_⊎_, inl, inr, ⊎-elim, _↔_, _≢_}
@@ -9,16 +9,16 @@ use native.Mathlib.Omega.{arith}
 use lib.Arith.{half-le}
 use lib.Pow.{pow-pos}
 use lib.Bits.{bitAnd, bitOr}
-use Rattle.sets.specs.Set.{bit, Has, Members, Subset}
+use Rattle.sets.specs.Set.{none, bit, Has, Members, Subset}
 use Rattle.sets.proofs.Bits.{has?, zero-not-has, bit-zero, bit-suc, bit-of-zero, bit-or, bit-and}
 
 -- ---- the empty set, union, intersection, singleton
 
-pub has-zero : (c : ℕ) → Has 0 c → ⊥
-has-zero c h = omega (arith, bit-of-zero c)
+pub has-none : (c : ℕ) → Has none c → ⊥
+has-none c h = omega (arith, bit-of-zero c)
 
 pub has-nonzero : (s c : ℕ) → Has s c → s ≢ 0
-has-nonzero s c h e = has-zero c (subst (λ (x : ℕ). Has x c) e h)
+has-nonzero s c h e = has-none c (subst (λ (x : ℕ). Has x c) e h)
 
 pub has-or : (a b c : ℕ) → Has (bitOr a b) c ↔ (Has a c ⊎ Has b c)
 has-or a b c = (
@@ -76,14 +76,3 @@ subset-antisymm a b p q = same-bits a b (λ c. same c (has? a c) (has? b c))
 
 pub same-members : (a b : ℕ) → ((c : ℕ) → Has a c ↔ Has b c) → a ≡ b
 same-members a b h = subset-antisymm a b (λ c. h c .0) (λ c. h c .1)
-
--- ---- subsets: the union is the least set that holds both
-
-pub subset-or-left : (a b : ℕ) → Subset a (bitOr a b)
-subset-or-left a b c h = has-or a b c .1 (inl h)
-
-pub subset-or-right : (a b : ℕ) → Subset b (bitOr a b)
-subset-or-right a b c h = has-or a b c .1 (inr h)
-
-pub or-subset : (a b s : ℕ) → Subset a s → Subset b s → Subset (bitOr a b) s
-or-subset a b s p q c h = ⊎-elim (p c) (q c) (has-or a b c .0 h)

@@ -1,14 +1,13 @@
 -- The contracts of this crate fix the outcome: any two outcomes that one of them admits are equal.
 -- Assumes nothing.
-use mathlib.Core.Path.{_≡_, refl}
-use mathlib.Core.Bool.{Bool, true, false}
+use mathlib.Core.Path.{_≡_}
 use mathlib.Core.List.{List}
 use mathlib.Core.Logic.{_↔_}
 use Prim.Native.Nat.{ℕ, _<_}
 use native.Mathlib.Omega.{arith}
 use lib.ListN.{length, getD}
 use lib.Seq.{ext-getD}
-use Rattle.sets.specs.Set.{Members, Least, Without, Decides}
+use Rattle.sets.specs.Set.{Members, LeastMember, Without}
 use Rattle.sets.specs.Rows.{Joins}
 use Rattle.sets.proofs.Members.{same-members}
 
@@ -16,16 +15,10 @@ use Rattle.sets.proofs.Members.{same-members}
 through : {A B P : Type 0} → A ↔ P → B ↔ P → A ↔ B
 through p q = ((λ a. q .1 (p .0 a)), λ b. p .1 (q .0 b))
 
-pub decides-once : (a b : Bool) {P : Type 0} → Decides a P → Decides b P → a ≡ b
-decides-once true true p q = refl
-decides-once true false p q = absurd (q .no refl (p .yes refl))
-decides-once false true p q = absurd (p .no refl (q .yes refl))
-decides-once false false p q = refl
-
 pub members-once : {a b : ℕ} {P : ℕ → Type 0} → Members a P → Members b P → a ≡ b
 members-once {a} {b} p q = same-members a b (λ c. through (p .has c) (q .has c))
 
-pub least-once : {s c d : ℕ} → Least s c → Least s d → c ≡ d
+pub least-once : {s c d : ℕ} → LeastMember s c → LeastMember s d → c ≡ d
 least-once {s} {c} {d} p q =
     let above : c < d → ⊥ = λ l. q .least c l (p .has) in
     let under : d < c → ⊥ = λ l. p .least d l (q .has) in

@@ -1,4 +1,4 @@
--- Loops that take one channel after the other, the members of a set or all below a number. What such a loop has done is its contract at the
+-- Loops that take one channel after the other, the members of a set. What such a loop has done is its contract at the
 -- channels taken so far, P; a turn takes c, which makes them U, and at the end they are all of them.
 -- Assumes nothing.
 use mathlib.Core.Path.{_≡_, refl, subst, subst⁻¹}
@@ -11,7 +11,7 @@ use lib.Bits.{bitOr}
 use lib.ListN.{length, getD, set}
 use Rattle.sets.specs.Set.{Has, Members, Subset, Without}
 use Rattle.sets.specs.Rows.{Joins, Over, From, Together}
-use Rattle.sets.proofs.Members.{has-zero, has-or}
+use Rattle.sets.proofs.Members.{has-none, has-or}
 use Rattle.sets.proofs.Joins.{joins-none, joins-same, joins-set}
 
 -- ---- which channels are taken
@@ -24,7 +24,7 @@ pub taken-none : (channels c : ℕ) → Taken channels channels c → ⊥
 taken-none channels c w = w .1 (w .0)
 
 pub taken-all : (channels left : ℕ) → left ≡ 0 → (c : ℕ) → Has channels c ↔ Taken channels left c
-taken-all channels left e c = ((λ h. (h, λ g. has-zero c (subst (λ x. Has x c) e g))), λ w. w .0)
+taken-all channels left e c = ((λ h. (h, λ g. has-none c (subst (λ x. Has x c) e g))), λ w. w .0)
 
 -- a member is taken: what is left loses it
 module _ (channels left c rest : ℕ) (s : Subset left channels) (w : Without left c rest) where
@@ -44,21 +44,13 @@ module _ (channels left c rest : ℕ) (s : Subset left channels) (w : Without le
   pub left-subset : Subset rest channels
   left-subset k h = s k (w .has k .0 h .0)
 
--- upwards: those below c are taken
-pub below-more : (c k : ℕ) → (k < c + 1) ↔ ((k < c) ⊎ (k ≡ c))
-below-more c k = (there (ℕ-discrete k c), ⊎-elim (λ l. omega arith) (λ q. omega arith))
-  where
-    there : Dec (k ≡ c) → k < c + 1 → (k < c) ⊎ (k ≡ c)
-    there (yes q) t = inr q
-    there (no n) t = inl (omega arith)
-
 -- ---- a row that is joined into at the channels taken, and the union of what stands there
 
 pub over-none : {P : ℕ → Type 0} (Q : ℕ → ℕ → Type 0) (row : List ℕ) (base : ℕ) → ((c : ℕ) → P c → ⊥) → Joins row row (Over base P Q)
 over-none Q row base n = joins-none row (λ i o w. n (i - base) (w .1))
 
 pub together-none : {P : ℕ → Type 0} (xs : List ℕ) (start : ℕ) → ((c : ℕ) → P c → ⊥) → Members 0 (Together xs start P)
-together-none xs start n = record { has = λ o. ((λ h. absurd (has-zero o h)), (λ w. absurd (n (w .0) (w .1)))) }
+together-none xs start n = record { has = λ o. ((λ h. absurd (has-none o h)), (λ w. absurd (n (w .0) (w .1)))) }
 
 -- one channel more
 module _ {P U : ℕ → Type 0} (c : ℕ) (more : (k : ℕ) → U k ↔ (P k ⊎ (k ≡ c))) where

@@ -1,25 +1,18 @@
 -- A width: the sets below 2 ^ w are those whose members are below w.
 -- Assumes nothing.
-use mathlib.Core.Path.{_≡_, sym, ap, _∙_, subst}
+use mathlib.Core.Path.{_≡_, ap, _∙_}
 use Prim.Native.Nat.{ℕ, zero, suc, _-_, _*_, _/_, _%_, _^_, _≤_, _<_}
-use native.Mathlib.Nat.{div-eq-of-lt, pow-suc, zero-lt-suc, le-of-suc-le-suc, not-suc-le-zero, lt-of-lt-of-le, div-lt-iff-lt-mul, one-mul}
+use native.Mathlib.Nat.{div-eq-of-lt, pow-suc, le-of-suc-le-suc, not-suc-le-zero, lt-of-lt-of-le, one-mul}
 use native.Mathlib.Omega.{arith}
 use lib.Dec.{lit<}
 use lib.Pow.{pow-pos, pow-mono, shl-exact}
 use Rattle.sets.specs.Set.{bit, Has}
 use Rattle.sets.proofs.Bits.{zero-not-has, bit-zero, bit-suc}
-use Rattle.sets.proofs.Minimum.{empty-zero}
 
 pub below : (w s c : ℕ) → s < 2 ^ w → Has s c → c < w
 below w s c b h =
     let none : w ≤ c → ⊥ = λ l. zero-not-has s c (ap (λ (x : ℕ). x % 2) (div-eq-of-lt (lt-of-lt-of-le b (pow-mono l)))) h in
     omega arith
-
-pub bounded : (w s : ℕ) → ((c : ℕ) → Has s c → c < w) → s < 2 ^ w
-bounded zero s h = omega (arith, empty-zero s .0 (λ c m. not-suc-le-zero (h c m)))
-bounded (suc w) s h =
-    let half = bounded w (s / 2) (λ c m. le-of-suc-le-suc (h (suc c) (bit-suc s c ∙ m))) in
-    subst (λ (x : ℕ). s < x) (sym (pow-suc 2 w)) (div-lt-iff-lt-mul (zero-lt-suc 1) .0 half)
 
 -- `1 << c` at the width w
 pub shift-one : (w c : ℕ) → c < w → 1 * 2 ^ c % 2 ^ w ≡ 2 ^ c

@@ -5,55 +5,61 @@ use mathlib.Core.Path.{_≡_}
 use mathlib.Core.Bool.{Bool, true, false}
 use mathlib.Core.Logic.{_↔_, _≢_}
 use mathlib.Core.List.{List, [], _∷_}
-use Prim.Native.Nat.{ℕ, zero, suc, _+_, _/_, _%_, _^_, _<_}
+use lib.Dec.{eqb}
+use Prim.Native.Nat.{ℕ, _/_, _%_, _^_, _<_}
+
+abbrev pub Set : Type 0
+Set = ℕ
+
+-- the set without a member
+abbrev pub none : Set
+none = 0
 
 -- the binary digit c of s
-abbrev pub bit : ℕ → ℕ → ℕ
+abbrev pub bit : Set → ℕ → ℕ
 bit s c = s / 2 ^ c % 2
 
 -- c is a member of s
-abbrev pub Has : ℕ → ℕ → Type 0
+abbrev pub Has : Set → ℕ → Type 0
 Has s c = bit s c ≡ 1
 
 -- s has just the members that P names
-pub record Members (s : ℕ) (P : ℕ → Type 0) : Type 0 where
+pub record Members (s : Set) (P : ℕ → Type 0) : Type 0 where
   pub has : (c : ℕ) → Has s c ↔ P c
 
+-- every member of s is below the width w
+abbrev pub Narrow : ℕ → Set → Type 0
+Narrow w s = (c : ℕ) → Has s c → c < w
+
 -- each member of a is a member of b
-abbrev pub Subset : ℕ → ℕ → Type 0
+abbrev pub Subset : Set → Set → Type 0
 Subset a b = (c : ℕ) → Has a c → Has b c
 
 -- s has no member
-abbrev pub Empty : ℕ → Type 0
+abbrev pub Empty : Set → Type 0
 Empty s = (c : ℕ) → Has s c → ⊥
 
+-- the test of it
+abbrev pub isNone : Set → Bool
+isNone s = eqb s none
+
 -- a and b share a member
-abbrev pub Meet : ℕ → ℕ → Type 0
+abbrev pub Meet : Set → Set → Type 0
 Meet a b = (c : ℕ) × Has a c × Has b c
 
 -- c is the least member of s
-pub record Least (s c : ℕ) : Type 0 where
+pub record LeastMember (s : Set) (c : ℕ) : Type 0 where
   pub has : Has s c
   pub least : (k : ℕ) → k < c → Has s k → ⊥
 
 -- r is s without its member c, and the smaller number
-pub record Without (s c r : ℕ) : Type 0 where
+pub record Without (s : Set) (c : ℕ) (r : Set) : Type 0 where
   pub has : (k : ℕ) → Has r k ↔ (Has s k × (k ≢ c))
   pub less : r < s
 
--- the sum of a function over the numbers below a bound
-unfoldable pub sum : ℕ → (ℕ → ℕ) → ℕ
-sum zero f = zero
-sum (suc n) f = f n + sum n f
-
--- how many members of s are below the width w
-abbrev pub size : ℕ → ℕ → ℕ
-size w s = sum w (bit s)
-
--- how many members below the width w the sets of a row have, all told
-unfoldable pub total : ℕ → List ℕ → ℕ
-total w [] = zero
-total w (s ∷ row) = size w s + total w row
+-- a set is four bytes, high byte first; channel c counts 2 to the c
+abbrev pub setBytes : Set → List ℕ
+setBytes s = s / 0x1000000 % 0x100 ∷ s / 0x10000 % 0x100 ∷ s / 0x100 % 0x100 ∷ s % 0x100 ∷ []
 
 -- the answer b is true where P holds, and false where it does not
 pub record Decides (b : Bool) (P : Type 0) : Type 0 where

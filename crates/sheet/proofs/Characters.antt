@@ -7,9 +7,9 @@ use native.Mathlib.Numerals.{add-one}
 use native.Mathlib.Omega.{arith}
 use lib.ListN.{length, set, getD, drop, length-drop, drop-of-length-le}
 use lib.Seq.{drop-cons}
-use Rattle.reading.specs.Text.{lineFeed}
+use Rattle.lines.specs.Text.{lineFeed}
 use Rattle.sheet.specs.Sheet.{digit, hexLine, hexLines}
-use Rattle.sheet.specs.Working.{Room, Put}
+use Rattle.sheet.specs.inner.Working.{Room, Put}
 use Rattle.sheet.proofs.Putting.{Left, left-none, left-store, left-room}
 
 pub line-length : (bytes : List ℕ) → length (hexLine bytes) ≡ 2 * length bytes + 1

@@ -11,7 +11,7 @@ use Rattle.reading.specs.declared.Refusal.{Refusal}
 use Rattle.reading.specs.Plan.{refused, planIn, padded}
 use Rattle.reading.specs.Promise.{Kept}
 use Rattle.reading.proofs.Promise.{kept}
-use Rattle.reading.proofs.Stores.{drop-replicate}
+use Rattle.lines.proofs.Lists.{drop-replicate}
 use Rattle.solving.specs.declared.Solved.{Solved}
 use Rattle.solving.specs.Solve.{refusedBy, overAllowance}
 use Rattle.solving.specs.Demand.{Demand2}
@@ -26,7 +26,7 @@ use Rattle.sheet.specs.declared.Written.{Written}
 use Rattle.sheet.specs.declared.Written.the-variants.{Whole, TooShort}
 use Rattle.sheet.specs.Sheet.{sheetOf}
 use Rattle.sheet.specs.Write.{valuesOf, lengthIn, Writes, longestSheet, IsWhole, Counted}
-use Rattle.sheet.specs.Demand.{refusalOf, IsRefusal, Demand1}
+use Rattle.sheet.specs.Demand.{refusalOf, Demand1}
 use Rattle.sheet.proofs.Sheets.{sheet-once, sheet-most}
 
 -- ---- outcomes

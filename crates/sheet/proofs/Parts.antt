@@ -9,10 +9,10 @@ use Rattle.solving.specs.declared.Solved.{Solved}
 use Rattle.judging.specs.declared.Answer.{Answer}
 use Rattle.judging.specs.declared.Verdict.{Verdict}
 use Rattle.judging.specs.declared.Verdict.the-variants.{Unjudged}
-use Rattle.judging.specs.Judge.{bytesOf}
-use Rattle.sheet.specs.declared.rows.Row.the-variants.{Binders, Ins, Outs}
+use Rattle.judging.specs.Judge.{verdictBytes}
+use Rattle.sheet.specs.declared.rows.Part.the-variants.{Binders, Ins, Outs}
 use Rattle.sheet.specs.Sheet.{countLine, binderName, inName, outName, setLines, solutionLines, solvedLines, refusalLine, byteLines, hexLine, hexLines, phrase, sheetOf}
-use Rattle.sheet.specs.Working.{rowText, filledIn, refusalText, judgedText}
+use Rattle.sheet.specs.inner.Working.{rowText, filledIn, refusalText, judgedText}
 use Rattle.sheet.proofs.Characters.{line-length, lines-append}
 use Rattle.sheet.proofs.Filling.{lines-size}
 
@@ -73,13 +73,13 @@ module _ (a : Answer) (e : a .verdict ≡ Unjudged) where
   refused-size = ap length refused-parts ∙ last-size (refusalLine (a .solved .refusal)) (phrase Unjudged)
 
 -- one with a yes or a no
-module _ (a : Answer) (v : Verdict) (e : a .verdict ≡ v) (judged : byteLines (a .solved) v ≡ solvedLines (a .solved) ++ (bytesOf v ∷ [])) where
+module _ (a : Answer) (v : Verdict) (e : a .verdict ≡ v) (judged : byteLines (a .solved) v ≡ solvedLines (a .solved) ++ (verdictBytes v ∷ [])) where
   pub judged-parts : sheetOf a ≡ judgedText (a .solved) v
-  judged-parts = sheet-with a v e ∙ (ap (λ ls. hexLines ls ++ phrase v) judged ∙ lines-then (solvedLines (a .solved)) (bytesOf v) (phrase v))
+  judged-parts = sheet-with a v e ∙ (ap (λ ls. hexLines ls ++ phrase v) judged ∙ lines-then (solvedLines (a .solved)) (verdictBytes v) (phrase v))
 
-  pub judged-size : length (sheetOf a) ≡ 7 + length (hexLines (solutionLines (a .solved .solution))) + (2 * length (bytesOf v) + 1 + length (phrase v))
+  pub judged-size : length (sheetOf a) ≡ 7 + length (hexLines (solutionLines (a .solved .solution))) + (2 * length (verdictBytes v) + 1 + length (phrase v))
   judged-size =
-      let both = length-append (hexLines (solvedLines (a .solved))) (hexLine (bytesOf v) ++ phrase v) in
+      let both = length-append (hexLines (solvedLines (a .solved))) (hexLine (verdictBytes v) ++ phrase v) in
       let front = solved-size (a .solved) in
-      let last = last-size (bytesOf v) (phrase v) in
+      let last = last-size (verdictBytes v) (phrase v) in
       ap length judged-parts ∙ omega arith

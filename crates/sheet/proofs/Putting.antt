@@ -6,8 +6,8 @@ use mathlib.Core.List.{List, [], _∷_, _++_}
 use native.Mathlib.Omega.{arith}
 use lib.ListN.{length, set, length-append, length-set}
 use lib.Seq.{sets}
-use Rattle.reading.proofs.Stores.{sets-append}
-use Rattle.sheet.specs.Working.{Room, Put}
+use Rattle.lines.proofs.Lists.{sets-append}
+use Rattle.sheet.specs.inner.Working.{Room, Put}
 
 pub record Left (before : List ℕ) (at : ℕ) (xs : List ℕ) (buffer : List ℕ) (next : ℕ) (rest : List ℕ) : Type 0 where
   pub same : sets buffer next rest ≡ sets before at xs

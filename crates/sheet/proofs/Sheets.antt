@@ -1,12 +1,13 @@
 -- The sheet of a text within an allowance: the two ways in which the code writes it, that there is one only and that it is computed, and that
 -- 8,128 bytes always suffice. All of it goes back to the one answer that the contract of `judge` admits. Assumes nothing.
-use Prim.Native.Nat.{ℕ, _+_, _<_, _≤_}
+use Prim.Native.Nat.{ℕ, _+_, _*_, _<_, _≤_}
 use mathlib.Core.Path.{_≡_, refl, sym, ap, subst⁻¹, _∙_}
 use mathlib.Core.List.{List, [], _∷_, _++_}
 use mathlib.Core.Logic.{⊎-elim}
 use native.Mathlib.Omega.{arith}
 use lib.ListN.{length, drop}
 use lib.Seq.{sets-eq}
+use Rattle.limits.specs.Limits.{mostBinders, levelSets}
 use Rattle.reading.specs.Plan.{Outcome, refused, read, Plan, planIn}
 use Rattle.solving.specs.declared.Solved.{Solved}
 use Rattle.solving.specs.Solutions.{Sized}
@@ -18,9 +19,9 @@ use Rattle.judging.specs.Judge.{Judges}
 use Rattle.judging.proofs.Demands.{once as answer-once, computed as answer-computed}
 use Rattle.sheet.specs.declared.Written.the-variants.{Whole, TooShort}
 use Rattle.sheet.specs.Sheet.{solutionLines, hexLines, sheetOf, SheetFor}
-use Rattle.sheet.specs.Write.{Writes}
-use Rattle.sheet.specs.Compute.{sheetFor}
-use Rattle.sheet.specs.Working.{Put}
+use Rattle.sheet.specs.Write.{Writes, longestSheet}
+use Rattle.sheet.specs.inner.Compute.{sheetFor}
+use Rattle.sheet.specs.inner.Working.{Put}
 use Rattle.sheet.proofs.Filling.{filled-most}
 use Rattle.sheet.proofs.Parts.{solution-size, refused-size, judged-size}
 
@@ -73,7 +74,7 @@ solves-sized o allowance s = go o
     go (read plan) w = ⊎-elim (λ a. a .sized) (λ a. nothing _ (a .is)) w
 
 -- 8,128 bytes always suffice
-pub sheet-most : {text : List ℕ} {allowance : ℕ} {sheet : List ℕ} → SheetFor text allowance sheet → length sheet ≤ 8128
+pub sheet-most : {text : List ℕ} {allowance : ℕ} {sheet : List ℕ} → SheetFor text allowance sheet → length sheet ≤ longestSheet
 sheet-most {text} {allowance} {sheet} s = go (answer .verdict) refl
   where
     answer : Answer
@@ -82,7 +83,7 @@ sheet-most {text} {allowance} {sheet} s = go (answer .verdict) refl
     sized : Sized (answer .solved .solution)
     sized = solves-sized (planIn text) allowance (answer .solved) (s .judged .solved)
 
-    few : length (hexLines (solutionLines (answer .solved .solution))) ≤ 8096
+    few : length (hexLines (solutionLines (answer .solved .solution))) ≤ 13 * mostBinders + 15 * (levelSets + levelSets)
     few =
         let size = solution-size (answer .solved .solution) in
         let binders = filled-most (answer .solved .solution .binders) in
@@ -90,7 +91,7 @@ sheet-most {text} {allowance} {sheet} s = go (answer .verdict) refl
         let outs = filled-most (answer .solved .solution .outs) in
         omega (arith, sized .binders, sized .ins, sized .outs)
 
-    go : (v : Verdict) → answer .verdict ≡ v → length sheet ≤ 8128
+    go : (v : Verdict) → answer .verdict ≡ v → length sheet ≤ longestSheet
     go Unjudged e = omega (arith, ap length (s .is), refused-size answer e)
     go Yes e = omega (arith, ap length (s .is), judged-size answer Yes e refl, few)
     go (No b) e = omega (arith, ap length (s .is), judged-size answer (No b) e refl, few)

@@ -2,5 +2,5 @@
 pub mod Sheet
 pub mod Write
 pub mod Demand
-pub mod Compute
-pub mod Working
+-- For inner contracts and for computing: nothing that a caller has to believe.
+pub mod inner

@@ -7,26 +7,25 @@ use Prim.Native.String.{String}
 use mathlib.Core.Bool.{cond}
 use mathlib.Core.Path.{_≡_}
 use mathlib.Core.List.{List, [], _∷_, _++_}
-use lib.Dec.{eqb, ltb}
+use lib.Dec.{ltb}
+use Rattle.limits.specs.Limits.{mostChannels}
+use Rattle.sets.specs.Set.{Set, isNone, setBytes}
+use Rattle.sets.specs.Rows.{SetRow}
 use Rattle.reading.specs.declared.Refusal.{Refusal}
 use Rattle.reading.specs.Plan.{planIn}
-use Rattle.reading.specs.Text.{lineFeed}
+use Rattle.lines.specs.Text.{lineFeed}
 use Rattle.solving.specs.declared.Solution.{Solution}
 use Rattle.solving.specs.declared.Solved.{Solved}
 use Rattle.judging.specs.declared.Answer.{Answer}
 use Rattle.judging.specs.declared.Verdict.{Verdict}
 use Rattle.judging.specs.declared.Verdict.the-variants.{Unjudged, Yes, No}
-use Rattle.judging.specs.Judge.{bytesOf, Judges}
+use Rattle.judging.specs.Judge.{verdictBytes, Judges}
 
 -- ---- numbers on a line
 
 -- two bytes, high byte first
 abbrev pub twoBytes : ℕ → List ℕ
 twoBytes n = n / 0x100 % 0x100 ∷ n % 0x100 ∷ []
-
--- a set is four bytes, high byte first; channel c counts 2 to the c
-abbrev pub setBytes : ℕ → List ℕ
-setBytes s = s / 0x1000000 % 0x100 ∷ s / 0x10000 % 0x100 ∷ s / 0x100 % 0x100 ∷ s % 0x100 ∷ []
 
 -- ---- the lines in order
 
@@ -38,20 +37,20 @@ countLine count = 0x2f ∷ twoBytes count
 abbrev pub binderName : ℕ → List ℕ
 binderName b = 0x20 ∷ b ∷ []
 
--- 21, level, channel: in(l, c) stands at l * 32 + c, so that 07 comes last
+-- 21, level, channel: the sets of a level stand side by side, so that 07 comes last
 abbrev pub inName : ℕ → List ℕ
-inName place = 0x21 ∷ place / 32 ∷ place % 32 ∷ []
+inName place = 0x21 ∷ place / mostChannels ∷ place % mostChannels ∷ []
 
 -- 22, the same for out sets
 abbrev pub outName : ℕ → List ℕ
-outName place = 0x22 ∷ place / 32 ∷ place % 32 ∷ []
+outName place = 0x22 ∷ place / mostChannels ∷ place % mostChannels ∷ []
 
--- the name and the set; an empty set has no line
-abbrev pub setLine : List ℕ → ℕ → List (List ℕ)
-setLine name set = cond (eqb set 0) [] ((name ++ setBytes set) ∷ [])
+-- the name and the set's four bytes; an empty set has no line
+abbrev pub setLine : List ℕ → Set → List (List ℕ)
+setLine name set = cond (isNone set) [] ((name ++ setBytes set) ∷ [])
 
 -- each non-empty set, by its place, from the given place on
-unfoldable pub setLines : (ℕ → List ℕ) → ℕ → List ℕ → List (List ℕ)
+unfoldable pub setLines : (ℕ → List ℕ) → ℕ → SetRow → List (List ℕ)
 setLines name place [] = []
 setLines name place (set ∷ rest) = setLine (name place) set ++ setLines name (place + 1) rest
 
@@ -70,8 +69,8 @@ refusalLine f = 0x3f ∷ f .number ∷ twoBytes (f .line)
 -- all lines but the last; 3001 for yes, 30 00 h g c o for no
 abbrev pub byteLines : Solved → Verdict → List (List ℕ)
 byteLines s Unjudged = refusalLine (s .refusal) ∷ []
-byteLines s Yes = solvedLines s ++ (bytesOf Yes ∷ [])
-byteLines s (No b) = solvedLines s ++ (bytesOf (No b) ∷ [])
+byteLines s Yes = solvedLines s ++ (verdictBytes Yes ∷ [])
+byteLines s (No b) = solvedLines s ++ (verdictBytes (No b) ∷ [])
 
 -- ---- characters
 

@@ -7,7 +7,7 @@ use crate::answers::length_of;
 use crate::answers::put_answer;
 
 mod answers;
-mod lines;
+mod put;
 mod rows;
 
 // What writing a sheet returns.

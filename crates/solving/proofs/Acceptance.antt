@@ -3,10 +3,11 @@
 use Prim.Native.Nat.{ℕ}
 use mathlib.Core.Path.{refl, subst⁻¹}
 use mathlib.Core.Logic.{_↔_, inl, inr, ⊎-elim}
-use Rattle.reading.specs.declared.Marker.{Marker}
-use Rattle.reading.specs.declared.Marker.the-variants.{Channel, Binder}
+use Rattle.limits.specs.Limits.{outermost}
+use Rattle.lines.specs.declared.Marker.{Marker}
+use Rattle.lines.specs.declared.Marker.the-variants.{Channel, Binder}
 use Rattle.reading.specs.Tree.{Tree, nil, silent, send, receive, sum, parallel, restriction, match, replication, bracket}
-use Rattle.solving.specs.Solutions.{Fact, binderSet, inSet, outSet, Sets, SetOf, Contained, outermost}
+use Rattle.solving.specs.Solutions.{Fact, binderSet, inSet, outSet, Sets, SetOf, Contained}
 use Rattle.solving.specs.Clauses.{Some, Heard, Meets, Holds, Acceptable}
 use Rattle.solving.specs.Rounds.{SendWants, ReceiveWants, BracketWants, Wants, Settled}
 

@@ -8,10 +8,11 @@ use mathlib.Core.Logic.{_↔_, _⊎_, inl, inr, ⊎-elim}
 use native.Mathlib.Omega.{arith}
 use native.Mathlib.Decide.{ℕ-discrete}
 use lib.Dec.{T, eqb, eqb→eq, eqb-refl}
+use Rattle.limits.specs.Limits.{outermost}
 use Rattle.reading.specs.Tree.{Tree}
-use Rattle.solving.specs.Solutions.{Fact, binderSet, inSet, outSet, outermost}
+use Rattle.solving.specs.Solutions.{Fact, binderSet, inSet, outSet}
 use Rattle.solving.specs.Rounds.{Wanted, Settled, after, Count}
-use Rattle.solving.specs.Compute.{wanted, sameFact, hasFact, addAll, allIn, Run, unfinished, settled, run}
+use Rattle.solving.specs.inner.Compute.{wanted, sameFact, hasFact, addAll, allIn, Run, unfinished, settled, run}
 use Rattle.solving.proofs.Acceptance.{wants-grows}
 use Rattle.solving.proofs.Lists.{Mem}
 use Rattle.solving.proofs.WantedLists.{listed, wanted-is}

@@ -9,12 +9,14 @@ use native.Mathlib.Omega.{arith}
 use native.Mathlib.Decide.{decLe}
 use native.Mathlib.Nat.{mul-le-mul}
 use lib.Dec.{T}
-use Rattle.reading.specs.declared.Head.{Head}
-use Rattle.reading.specs.Promise.{HeadWithin, EachWithin}
+use Rattle.limits.specs.Limits.{highestLevel, outermost}
+use Rattle.lines.specs.declared.Head.{Head}
+use Rattle.lines.specs.Promise.{HeadWithin}
+use Rattle.reading.specs.Promise.{EachWithin}
 use Rattle.reading.specs.Tree.{Tree, listing}
-use Rattle.solving.specs.Solutions.{Fact, outermost}
+use Rattle.solving.specs.Solutions.{Fact}
 use Rattle.solving.specs.Rounds.{Settled, after, Count, mostRounds, roundCeiling}
-use Rattle.solving.specs.Compute.{wanted, hasFact, addAll, Run, unfinished, settled, run}
+use Rattle.solving.specs.inner.Compute.{wanted, hasFact, addAll, Run, unfinished, settled, run}
 use Rattle.solving.proofs.Lists.{Mem}
 use Rattle.solving.proofs.Computed.{has-is, one-more, RunIs, whole-run}
 use Rattle.solving.proofs.Ranges.{after-within}
@@ -78,12 +80,12 @@ module _ (h : Head) (p : Tree) (g : EachWithin h (listing p)) where
           let b = size-le h (test p (mostRounds h)) in
           absurd (omega arith)
 
--- no plan takes more than 17,409 rounds
+-- no plan takes more rounds than that of the most channels, binders and levels
 pub count-ceiling : (h : Head) → HeadWithin h → mostRounds h ≤ roundCeiling
 count-ceiling h f =
     let C = h .channels in
-    let a : h .binders * C ≤ 32 * 32 = mul-le-mul (f .binders) (f .channels) in
-    let k : 2 * (h .top + 2) ≤ 16 = let t = f .top in omega arith in
-    let b : 2 * (h .top + 2) * C ≤ 16 * 32 = mul-le-mul k (f .channels) in
-    let d : 2 * (h .top + 2) * C * C ≤ 16 * 32 * 32 = mul-le-mul b (f .channels) in
+    let a = mul-le-mul (f .binders) (f .channels) in
+    let k : 2 * (h .top + 2) ≤ 2 * (highestLevel + 2) = let t = f .top in omega arith in
+    let b = mul-le-mul k (f .channels) in
+    let d = mul-le-mul b (f .channels) in
     omega arith

@@ -13,7 +13,7 @@ use Rattle.solving.specs.declared.Solved.{Solved}
 use Rattle.solving.specs.Rounds.{roundCeiling}
 use Rattle.solving.specs.Solve.{Solves}
 use Rattle.solving.specs.Demand.{Demand2}
-use Rattle.solving.specs.Compute.{solvedOf}
+use Rattle.solving.specs.inner.Compute.{solvedOf}
 use Rattle.solving.proofs.Promises.{solves-once, outcome-computed, answered-at-ceiling, outcome-demand}
 
 -- any two outcomes that the contract admits are equal

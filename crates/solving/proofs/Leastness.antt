@@ -5,8 +5,9 @@ use mathlib.Core.Path.{_≡_}
 use mathlib.Core.Logic.{_↔_, ⊎-elim}
 use native.Mathlib.Omega.{arith}
 use native.Mathlib.Decide.{decLt}
+use Rattle.limits.specs.Limits.{outermost}
 use Rattle.reading.specs.Tree.{Tree}
-use Rattle.solving.specs.Solutions.{Fact, Sets, Contained, outermost}
+use Rattle.solving.specs.Solutions.{Fact, Sets, Contained}
 use Rattle.solving.specs.Clauses.{Acceptable}
 use Rattle.solving.specs.Rounds.{after, Settled, Count, Exceeds}
 use Rattle.solving.specs.Least.{Least}

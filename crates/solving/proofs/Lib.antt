@@ -14,8 +14,8 @@ pub mod Lists
 pub mod WantedLists
 pub mod Computed
 pub mod Entries
-pub mod Examples
 -- The count.
+pub mod Sums
 pub mod Sizes
 pub mod Counting
 -- The promise, over outcomes and over texts.

@@ -5,7 +5,7 @@ use mathlib.Core.Path.{_≡_, refl, subst, subst⁻¹}
 use mathlib.Core.List.{List, [], _∷_, _++_}
 use mathlib.Core.Logic.{_↔_, _⊎_, inl, inr, ⊎-elim}
 use lib.Dec.{T, eqb, eqb→eq, eqb-refl}
-use Rattle.solving.specs.Compute.{each, when, ifSome}
+use Rattle.solving.specs.inner.Compute.{each, when, ifSome}
 
 abbrev pub Mem : {A : Type 0} → A → List A → Type 0
 Mem a [] = ⊥

@@ -5,8 +5,9 @@ use mathlib.Core.Path.{_≡_, refl, sym, ap, subst, subst⁻¹, _∙_}
 use mathlib.Core.List.{List, []}
 use mathlib.Core.Logic.{_↔_, inl, inr, Iff·trans, Iff·symm}
 use native.Mathlib.Omega.{arith}
-use Rattle.reading.specs.declared.Head.{Head}
-use Rattle.reading.specs.Promise.{HeadWithin, PlanWithin, Kept}
+use Rattle.lines.specs.declared.Head.{Head}
+use Rattle.lines.specs.Promise.{HeadWithin}
+use Rattle.reading.specs.Promise.{PlanWithin, Kept}
 use Rattle.reading.specs.Plan.{Outcome, refused, read, Plan}
 use Rattle.reading.specs.Tree.{Tree}
 use Rattle.solving.specs.declared.Solution.{Solution}
@@ -16,7 +17,7 @@ use Rattle.solving.specs.Rounds.{after, Count, roundCeiling}
 use Rattle.solving.specs.Least.{Least, LeastArrays}
 use Rattle.solving.specs.Solve.{Answered, Solves, refusedBy, overAllowance}
 use Rattle.solving.specs.Demand.{LeastAnswer, PlanDemand, Demand2}
-use Rattle.solving.specs.Compute.{Run, unfinished, settled, run, solutionOf, answerOf, solvedOf}
+use Rattle.solving.specs.inner.Compute.{Run, unfinished, settled, run, solutionOf, solvedBy, solvedOf}
 use Rattle.solving.proofs.Lists.{Mem}
 use Rattle.solving.proofs.Leastness.{count-least, count-unique, least-same, busy-exceeds}
 use Rattle.solving.proofs.Ranges.{after-within}
@@ -63,7 +64,7 @@ module _ (plan : Plan) (g : PlanWithin plan) (n : ℕ) (s : List Fact) (c : Coun
   computed-least : Least (plan .tree) (membersIn (solutionOf s))
   computed-least = least-same (plan .tree) (after (plan .tree) (c .earlier)) (membersIn (solutionOf s)) members (count-least (plan .tree) n c)
 
-  computed-answer : (allowance : ℕ) → n ≤ allowance → Answered (plan .head) (plan .tree) allowance (answerOf (plan .head) (settled n s))
+  computed-answer : (allowance : ℕ) → n ≤ allowance → Answered (plan .head) (plan .tree) allowance (solvedBy (plan .head) (settled n s))
   computed-answer allowance l = record {
     refusal = refl;
     head = refl;
@@ -74,7 +75,7 @@ module _ (plan : Plan) (g : PlanWithin plan) (n : ℕ) (s : List Fact) (c : Coun
     sized = solution-sized s;
   }
 
-  computed-demand : LeastAnswer plan n (answerOf (plan .head) (settled n s))
+  computed-demand : LeastAnswer plan n (solvedBy (plan .head) (settled n s))
   computed-demand = record {
     refusal = refl;
     head = refl;
@@ -87,7 +88,7 @@ pub outcome-computed : (o : Outcome Plan) (allowance : ℕ) → Kept o → Solve
 outcome-computed (refused f) allowance g = refl
 outcome-computed (read plan) allowance g = go (run (plan .tree) allowance 0 []) (whole-run (plan .tree) allowance)
   where
-    go : (r : Run) → RunIs (plan .tree) allowance r → Solves (read plan) allowance (answerOf (plan .head) r)
+    go : (r : Run) → RunIs (plan .tree) allowance r → Solves (read plan) allowance (solvedBy (plan .head) r)
     go unfinished w = inr (record { exceeds = busy-exceeds (plan .tree) allowance w; is = refl })
     go (settled n s) w = inl (computed-answer plan g n s (w .0) (w .2) allowance (w .1))
 
@@ -123,13 +124,13 @@ plan-demand plan allowance r g e =
     }
   where
     go : (n : ℕ) → Count (plan .tree) n → (q : Run) → RunIs (plan .tree) allowance q
-        → (n ≤ allowance → LeastAnswer plan n (answerOf (plan .head) q))
-        × (allowance < n → answerOf (plan .head) q ≡ refusedBy overAllowance)
+        → (n ≤ allowance → LeastAnswer plan n (solvedBy (plan .head) q))
+        × (allowance < n → solvedBy (plan .head) q ≡ refusedBy overAllowance)
     go n c unfinished w = ((λ l. absurd (let z = busy-exceeds (plan .tree) allowance w n c in omega arith)), λ l. refl)
     go n c (settled m s) w =
         let u = count-unique (plan .tree) m n (w .0) c in
         let v = w .1 in (
-          (λ l. subst (λ k. LeastAnswer plan k (answerOf (plan .head) (settled m s))) u (computed-demand plan g m s (w .0) (w .2))),
+          (λ l. subst (λ k. LeastAnswer plan k (solvedBy (plan .head) (settled m s))) u (computed-demand plan g m s (w .0) (w .2))),
           λ l. absurd (omega arith),
         )
 

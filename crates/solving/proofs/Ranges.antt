@@ -5,13 +5,15 @@ use mathlib.Core.Path.{refl, subst⁻¹}
 use mathlib.Core.List.{List, [], _∷_, _++_}
 use mathlib.Core.Logic.{inl, inr, ⊎-elim}
 use native.Mathlib.Omega.{arith}
-use Rattle.reading.specs.declared.Head.{Head}
-use Rattle.reading.specs.declared.Marker.{Marker}
-use Rattle.reading.specs.declared.Marker.the-variants.{Channel, Binder}
-use Rattle.reading.specs.declared.Node.{Node}
-use Rattle.reading.specs.Promise.{MarkerWithin, EachWithin}
+use Rattle.limits.specs.Limits.{outermost}
+use Rattle.lines.specs.declared.Head.{Head}
+use Rattle.lines.specs.declared.Marker.{Marker}
+use Rattle.lines.specs.declared.Marker.the-variants.{Channel, Binder}
+use Rattle.lines.specs.declared.Node.{Node}
+use Rattle.lines.specs.Promise.{MarkerWithin}
+use Rattle.reading.specs.Promise.{EachWithin}
 use Rattle.reading.specs.Tree.{Tree, nil, silent, send, receive, sum, parallel, restriction, match, replication, bracket, listing}
-use Rattle.solving.specs.Solutions.{Fact, binderSet, inSet, outSet, Sets, SetOf, Level, InRange, LiesWithin, outermost}
+use Rattle.solving.specs.Solutions.{Fact, binderSet, inSet, outSet, Sets, SetOf, Level, InRange, LiesWithin}
 use Rattle.solving.specs.Rounds.{SendWants, ReceiveWants, BracketWants, Wants, after}
 
 pub within-split : (h : Head) (xs ys : List Node) → EachWithin h (xs ++ ys) → EachWithin h xs × EachWithin h ys

@@ -6,8 +6,8 @@ use mathlib.Core.List.{List, [], _∷_, _++_, map}
 use mathlib.Core.Logic.{_≢_}
 use native.Mathlib.Omega.{arith}
 use lib.ListN.{length, getD, length-append, length-map}
-use Rattle.reading.specs.declared.Node.{Node}
-use Rattle.reading.specs.declared.Node.the-variants.{Nil}
+use Rattle.lines.specs.declared.Node.{Node}
+use Rattle.lines.specs.declared.Node.the-variants.{Nil}
 use Rattle.reading.specs.declared.Reading.{Reading}
 use Rattle.reading.specs.declared.Slot.{Slot}
 use Rattle.reading.specs.Plan.{Outcome, refused, read, Plan, padded, slot, readingOf}
@@ -15,7 +15,7 @@ use Rattle.reading.specs.Promise.{EachWithin, PlanWithin, Kept}
 use Rattle.reading.specs.Tree.{listing}
 use Rattle.solving.specs.declared.Solved.{Solved}
 use Rattle.solving.specs.Solve.{Solves, refusedBy}
-use Rattle.solving.specs.Walk.{nodeAt, Stands, Spells, Spelled, Settles}
+use Rattle.solving.specs.inner.Walk.{nodeAt, Stands, Spells, Spelled, Settles}
 use Rattle.solving.proofs.Walks.{alone}
 
 -- nodes stand where each of them stands

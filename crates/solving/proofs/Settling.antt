@@ -6,22 +6,25 @@ use mathlib.Core.List.{List, [], _∷_}
 use mathlib.Core.Logic.{_↔_, inl, inr, ⊎-elim, Iff·trans, Iff·symm}
 use native.Mathlib.Omega.{arith}
 use native.Mathlib.Decide.{ℕ-discrete, decLt}
-use lib.ListN.{length, getD, replicate, getD-replicate, length-replicate, List·getD-eq-default}
-use lib.Seq.{ext-getD}
+use lib.ListN.{length}
+use Rattle.limits.specs.Limits.{mostChannels, mostBinders, mostDepth, outermost, levels, placeOf, levelSets}
+use Rattle.limits.proofs.Places.{place-below, level-of, channel-of, place-of}
 use Rattle.sets.specs.Set.{Has}
-use Rattle.sets.proofs.Members.{has-zero, same-members}
-use Rattle.reading.specs.declared.Head.{Head}
+use Rattle.sets.specs.Rows.{SetRow, emptyRow, setAt, HasAt, Copied}
+use Rattle.sets.proofs.Members.{same-members}
+use Rattle.sets.proofs.SameRows.{none-at, same-row}
+use Rattle.lines.specs.declared.Head.{Head}
 use Rattle.reading.specs.declared.Slot.{Slot}
 use Rattle.reading.specs.Promise.{EachWithin}
 use Rattle.reading.specs.Plan.{noRefusal}
 use Rattle.reading.specs.Tree.{Tree, listing}
 use Rattle.solving.specs.declared.Solved.{Solved}
-use Rattle.solving.specs.Solutions.{Fact, binderSet, inSet, outSet, membersIn, outermost}
+use Rattle.solving.specs.Solutions.{Fact, binderSet, inSet, outSet, membersIn}
 use Rattle.solving.specs.Rounds.{Wanted, Settled, after, Count}
 use Rattle.solving.specs.Least.{Least}
 use Rattle.solving.specs.Solve.{Answered}
-use Rattle.solving.specs.Table.{tableSize, insAt, outsAt, inTable, Adds, Copied, Unpacked}
-use Rattle.solving.specs.Walk.{Stands, Spells, IsPlan, Ready}
+use Rattle.solving.specs.inner.Table.{insStart, outsStart, tableSize, insAt, outsAt, inTable, Adds, Unpacked}
+use Rattle.solving.specs.inner.Walk.{Stands, Spells, IsPlan, Ready}
 use Rattle.solving.proofs.Acceptance.{wants-grows}
 use Rattle.solving.proofs.Leastness.{count-least, least-same}
 use Rattle.solving.proofs.Ranges.{after-within}
@@ -29,8 +32,8 @@ use Rattle.solving.proofs.Walks.{alone}
 
 -- ---- the round's walk may begin
 
-pub round-ready : (ns : List Slot) (old new : List ℕ) → length old ≡ tableSize → length new ≡ tableSize → IsPlan ns
-    → Ready 32 ns 0 outermost 1 old new
+pub round-ready : (ns : List Slot) (old new : SetRow) → length old ≡ tableSize → length new ≡ tableSize → IsPlan ns
+    → Ready mostDepth ns 0 outermost 1 old new
 round-ready ns old new zo zn w =
     let s = w .1 .1 in
     record {
@@ -50,90 +53,86 @@ spelled-within {h} {ns} {p} s = subst (EachWithin h) (alone p) (s .planted .with
 
 -- ---- tables that hold the same are one
 
-zeros : (n i : ℕ) → _≡_ {A = ℕ} (getD (replicate n 0) i 0) 0
-zeros n i = go (decLt i n)
-  where
-    go : Dec (i < n) → _≡_ {A = ℕ} (getD (replicate n 0) i 0) 0
-    go (yes h) = getD-replicate n i 0 0 h
-    go (no h) = List·getD-eq-default (replicate n 0) 0 (let e : length (replicate {A = ℕ} n 0) ≡ n = length-replicate n 0 in omega arith)
+pub empty-table : (f : Fact) → inTable (emptyRow tableSize) f → ⊥
+empty-table (binderSet b o) h = none-at tableSize b o (h .1)
+empty-table (inSet l c o) h = none-at tableSize (insAt l + c) o (h .2)
+empty-table (outSet l c o) h = none-at tableSize (outsAt l + c) o (h .2)
 
-pub none-there : (n i o : ℕ) → Has (getD (replicate n 0) i 0) o → ⊥
-none-there n i o h = has-zero o (subst (λ k. Has k o) (zeros n i) h)
+-- a level's sets from a start on, w to each of n levels
+row-same : (w n : ℕ) (a b : SetRow) (start : ℕ)
+    → ((l c o : ℕ) → l < n → c < w → HasAt a (start + l * w + c) o ↔ HasAt b (start + l * w + c) o)
+    → (i : ℕ) → start ≤ i → i < start + n * w → setAt a i ≡ setAt b i
+row-same w n a b start h i lo hi =
+    let at : i - start < n * w = omega arith in
+    let l = (i - start) / w in
+    let c = (i - start) % w in
+    let e : start + l * w + c ≡ i = omega (arith, place-of w n (i - start) at) in
+    let same = same-members _ _ (λ o. h l c o (level-of w n (i - start) at) (channel-of w n (i - start) at)) in
+    subst (λ k. setAt a k ≡ setAt b k) e same
 
-pub empty-table : (f : Fact) → inTable (replicate tableSize 0) f → ⊥
-empty-table (binderSet b o) h = none-there tableSize b o (h .1)
-empty-table (inSet l c o) h = none-there tableSize (insAt l + c) o (h .2)
-empty-table (outSet l c o) h = none-there tableSize (outsAt l + c) o (h .2)
-
-module _ (a b : List ℕ) (same : (f : Fact) → inTable a f ↔ inTable b f) where
-  -- a level's sets from a start on
-  row-same : (start i : ℕ) → ((l c o : ℕ) → l < 8 → c < 32 → Has (getD a (start + l * 32 + c) 0) o ↔ Has (getD b (start + l * 32 + c) 0) o)
-      → start ≤ i → i < start + 256 → getD a i 0 ≡ getD b i 0
-  row-same start i h lo hi =
-      let l = (i - start) / 32 in
-      let c = (i - start) % 32 in
-      let e : start + l * 32 + c ≡ i = omega arith in
-      subst (λ k. getD a k 0 ≡ getD b k 0) e
-      (same-members (getD a (start + l * 32 + c) 0) (getD b (start + l * 32 + c) 0) (λ o. h l c o (omega arith) (omega arith)))
-
-  place-same : (i : ℕ) → i < tableSize → Dec (i < 32) → Dec (i < 288) → getD a i 0 ≡ getD b i 0
-  place-same i h (yes q) e = same-members (getD a i 0) (getD b i 0) (λ o. (
+module _ (a b : SetRow) (same : (f : Fact) → inTable a f ↔ inTable b f) where
+  place-same : (i : ℕ) → i < tableSize → Dec (i < insStart) → Dec (i < outsStart) → setAt a i ≡ setAt b i
+  place-same i h (yes q) e = same-members (setAt a i) (setAt b i) (λ o. (
     (λ x. same (binderSet i o) .0 (q, x) .1),
     (λ x. same (binderSet i o) .1 (q, x) .1),
   ))
-  place-same i h (no n) (yes q) = row-same 32 i (λ l c o p r. (
+  place-same i h (no n) (yes q) = row-same mostChannels levels a b insStart (λ l c o p r. (
     (λ x. same (inSet l c o) .0 (p, r, x) .2),
     (λ x. same (inSet l c o) .1 (p, r, x) .2),
-  )) (omega arith) (omega arith)
-  place-same i h (no n) (no m) = row-same 288 i (λ l c o p r. (
+  )) i (omega arith) (omega arith)
+  place-same i h (no n) (no m) = row-same mostChannels levels a b outsStart (λ l c o p r. (
     (λ x. same (outSet l c o) .0 (p, r, x) .2),
     (λ x. same (outSet l c o) .1 (p, r, x) .2),
-  )) (omega arith) (omega arith)
+  )) i (omega arith) (omega arith)
 
   pub table-same : length a ≡ tableSize → length b ≡ tableSize → a ≡ b
-  table-same x y = ext-getD 0 a b (x ∙ sym y) (λ i l. place-same i (omega arith) (decLt i 32) (decLt i 288))
+  table-same x y = same-row a b (x ∙ sym y) (λ i l. place-same i (omega arith) (decLt i insStart) (decLt i outsStart))
 
 -- ---- a table copied out to a solution
 
-pub unpacked : (t rb ri ro b i o : List ℕ) → length rb ≡ 32 → length ri ≡ 256 → length ro ≡ 256
-    → Copied rb t 0 b → Copied ri t 32 i → Copied ro t 288 o → Unpacked t (record { binders = b; ins = i; outs = o })
+-- w sets to each of n levels, from a start on
+row-copied : (w n start : ℕ) (t from r : SetRow) → length from ≡ n * w → Copied from t start r → (l c u : ℕ) → l < n → c < w
+    → HasAt r (l * w + c) u ↔ HasAt t (start + l * w + c) u
+row-copied w n start t from r long k l c u l-fits c-fits =
+    let at : start + (l * w + c) ≡ start + l * w + c = omega arith in
+    let e = k .copies (l * w + c) (omega (arith, place-below w n l c l-fits c-fits)) ∙ ap (setAt t) at in
+    (subst (λ s. Has s u) e, subst⁻¹ (λ s. Has s u) e)
+
+pub unpacked : (t rb ri ro b i o : SetRow) → length rb ≡ mostBinders → length ri ≡ levelSets → length ro ≡ levelSets
+    → Copied rb t 0 b → Copied ri t insStart i → Copied ro t outsStart o → Unpacked t (record { binders = b; ins = i; outs = o })
 unpacked t rb ri ro b i o lb li lo cb ci co = record {
   same = same;
   sized = record { binders = cb .sized ∙ lb; ins = ci .sized ∙ li; outs = co .sized ∙ lo };
 }
   where
-    row : (start : ℕ) (from r : List ℕ) → length from ≡ 256 → Copied from t start r → (l c u : ℕ) → l < 8 → c < 32
-        → Has (getD r (l * 32 + c) 0) u ↔ Has (getD t (start + l * 32 + c) 0) u
-    row start from r long k l c u l8 c32 =
-        let at : start + (l * 32 + c) ≡ start + l * 32 + c = omega arith in
-        let e : getD r (l * 32 + c) 0 ≡ getD t (start + l * 32 + c) 0 =
-        k .copies (l * 32 + c) (omega arith) ∙ ap (λ (n : ℕ). getD t n 0) at in
-        (subst (λ s. Has s u) e, subst⁻¹ (λ s. Has s u) e)
+    row : (start : ℕ) (from r : SetRow) → length from ≡ levelSets → Copied from t start r → (l c u : ℕ) → l < levels → c < mostChannels
+        → HasAt r (placeOf l c) u ↔ HasAt t (start + l * mostChannels + c) u
+    row start from r = row-copied mostChannels levels start t from r
 
     same : (f : Fact) → membersIn (record { binders = b; ins = i; outs = o }) f ↔ inTable t f
     same (binderSet d u) =
-        let e : d < 32 → getD b d 0 ≡ getD t d 0 = λ h.
-        cb .copies d (omega arith) ∙ ap (λ (n : ℕ). getD t n 0) (let z : 0 + d ≡ d = omega arith in z) in
+        let e : d < mostBinders → setAt b d ≡ setAt t d = λ h.
+        cb .copies d (omega arith) ∙ ap (setAt t) (let z : 0 + d ≡ d = omega arith in z) in
         ((λ h. (h .0, subst (λ s. Has s u) (e (h .0)) (h .1))), λ h. (h .0, subst⁻¹ (λ s. Has s u) (e (h .0)) (h .1)))
     same (inSet l c u) = (
-      (λ h. (h .0, h .1, row 32 ri i li ci l c u (h .0) (h .1) .0 (h .2))),
-      (λ h. (h .0, h .1, row 32 ri i li ci l c u (h .0) (h .1) .1 (h .2))),
+      (λ h. (h .0, h .1, row insStart ri i li ci l c u (h .0) (h .1) .0 (h .2))),
+      (λ h. (h .0, h .1, row insStart ri i li ci l c u (h .0) (h .1) .1 (h .2))),
     )
     same (outSet l c u) = (
-      (λ h. (h .0, h .1, row 288 ro o lo co l c u (h .0) (h .1) .0 (h .2))),
-      (λ h. (h .0, h .1, row 288 ro o lo co l c u (h .0) (h .1) .1 (h .2))),
+      (λ h. (h .0, h .1, row outsStart ro o lo co l c u (h .0) (h .1) .0 (h .2))),
+      (λ h. (h .0, h .1, row outsStart ro o lo co l c u (h .0) (h .1) .1 (h .2))),
     )
 
 -- ---- the table after some rounds
 
-pub record Reached (p : Tree) (n : ℕ) (t : List ℕ) : Type 0 where
+pub record Reached (p : Tree) (n : ℕ) (t : SetRow) : Type 0 where
   pub holds : (f : Fact) → after p n f ↔ inTable t f
   pub busy : (j : ℕ) → j < n → Settled p (after p j) → ⊥
 
-pub reached-none : (p : Tree) → Reached p 0 (replicate tableSize 0)
+pub reached-none : (p : Tree) → Reached p 0 (emptyRow tableSize)
 reached-none p = record { holds = λ f. (absurd, λ x. absurd (empty-table f x)); busy = λ j l s. omega arith }
 
-module _ (p : Tree) (n : ℕ) (t u : List ℕ) (r : Reached p n t) (a : Adds t u (Wanted p (inTable t))) where
+module _ (p : Tree) (n : ℕ) (t u : SetRow) (r : Reached p n t) (a : Adds t u (Wanted p (inTable t))) where
   -- what is wanted of the sets is wanted of the table
   wanted-same : (f : Fact) → Wanted p (after p n) f ↔ Wanted p (inTable t) f
   wanted-same f = (
@@ -171,7 +170,7 @@ module _ (p : Tree) (n : ℕ) (t u : List ℕ) (r : Reached p n t) (a : Adds t u
 
 -- ---- the answers
 
-pub answered-by : (h : Head) (p : Tree) (allowance n : ℕ) (t : List ℕ) (r : Solved) → EachWithin h (listing p) → Reached p n t
+pub answered-by : (h : Head) (p : Tree) (allowance n : ℕ) (t : SetRow) (r : Solved) → EachWithin h (listing p) → Reached p n t
     → Settled p (after p n) → n < allowance → r .refusal ≡ noRefusal → r .head ≡ h → r .count ≡ n + 1 → Unpacked t (r .solution)
     → Answered h p allowance r
 answered-by h p allowance n t r w e s l refusal head count u = record {

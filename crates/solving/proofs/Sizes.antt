@@ -8,10 +8,10 @@ use native.Mathlib.Omega.{arith}
 use native.Mathlib.Nat.{mul-assoc}
 use lib.Dec.{T, leb}
 use borrow.Author.Tests.{le-leb, lt-leb}
-use Rattle.sets.specs.Set.{sum}
-use Rattle.sets.proofs.Sums.{sum-le, sum-mono, sum-less}
-use Rattle.reading.specs.declared.Head.{Head}
-use Rattle.solving.specs.Solutions.{Fact, binderSet, inSet, outSet, Level, InRange, outermost}
+use Rattle.limits.specs.Limits.{outermost}
+use Rattle.lines.specs.declared.Head.{Head}
+use Rattle.solving.specs.Solutions.{Fact, binderSet, inSet, outSet, Level, InRange}
+use Rattle.solving.proofs.Sums.{sum, sum-le, sum-mono, sum-less}
 
 -- a solution, by a test
 abbrev pub Test : Type 0

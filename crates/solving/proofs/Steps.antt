@@ -1,31 +1,29 @@
 -- What a node does by itself, from what the parts of the code promise: the ways in which a clause ends, and for each clause
 -- that adds something, that what is joined to the table is just what the clause wants. Assumes nothing.
-use Prim.Native.Nat.{ℕ, _+_, _*_, _<_, _^_}
+use Prim.Native.Nat.{ℕ, _+_, _*_, _<_}
 use mathlib.Core.Bool.{Bool, true, false}
 use mathlib.Core.Path.{_≡_, refl, subst, subst⁻¹}
-use mathlib.Core.List.{List}
 use mathlib.Core.Logic.{_↔_, _⊎_, inl, inr, ⊎-elim, Iff·trans}
 use native.Mathlib.Omega.{arith}
-use lib.Bits.{bitOr}
-use lib.Dec.{T, eqb, lit<}
-use lib.ListN.{length, getD, set}
-use Rattle.sets.specs.Set.{Has, Members, Empty, Meet, Decides}
-use Rattle.sets.specs.Rows.{Joins, Over, From, Together}
+use lib.Dec.{T, eqb}
+use lib.ListN.{length}
+use Rattle.limits.specs.Limits.{mostChannels, mostBinders, levels}
+use Rattle.sets.specs.Set.{Has, Members, Narrow, Empty, Meet, Decides}
+use Rattle.sets.specs.Rows.{SetRow, setAt, Joins, Only, Over, From, Together}
 use Rattle.sets.proofs.Decide.{says-no, says-equal}
 use Rattle.sets.proofs.Minimum.{members-some}
-use Rattle.sets.proofs.Width.{below, full}
-use Rattle.reading.specs.declared.Head.{Head}
-use Rattle.reading.specs.declared.Marker.{Marker}
-use Rattle.reading.specs.declared.Marker.the-variants.{Channel, Binder}
-use Rattle.reading.specs.declared.Node.{Node}
-use Rattle.reading.specs.declared.Node.the-variants.{Receive, Bracket}
+use Rattle.lines.specs.declared.Head.{Head}
+use Rattle.lines.specs.declared.Marker.{Marker}
+use Rattle.lines.specs.declared.Marker.the-variants.{Channel, Binder}
+use Rattle.lines.specs.declared.Node.{Node}
+use Rattle.lines.specs.declared.Node.the-variants.{Receive, Bracket}
 use Rattle.reading.specs.Tree.{branchCount}
-use Rattle.reading.specs.Promise.{HeadWithin, MarkerWithin}
+use Rattle.lines.specs.Promise.{HeadWithin, MarkerWithin}
 use Rattle.solving.specs.Solutions.{Fact, binderSet, inSet, outSet, SetOf, Level}
 use Rattle.solving.specs.Clauses.{Some, Heard, Meets}
 use Rattle.solving.specs.Rounds.{SendWants, ReceiveWants, BracketWants}
-use Rattle.solving.specs.Table.{insAt, outsAt, inTable, tableSize, MarkerFits, SentOn, Sounding, Adds}
-use Rattle.solving.specs.Walk.{Condition, Own, levelIn, Able, Asked, Stepped}
+use Rattle.solving.specs.inner.Table.{insStart, outsStart, insAt, outsAt, inTable, tableSize, MarkerFits, SentOn, Sounding, Adds}
+use Rattle.solving.specs.inner.Walk.{Condition, Own, levelIn, Able, Asked, Stepped}
 use Rattle.solving.proofs.Tables.{adds-none, adds-same, At, binder-kept, row-kept, row-joined, binder-joined, beside-binder, merged-at}
 
 -- ---- numbers that fit the table
@@ -34,17 +32,17 @@ pub marker-fits : (h : Head) (x : Marker) → HeadWithin h → MarkerWithin h x 
 marker-fits h (Channel c) f w = let k = f .channels in omega arith
 marker-fits h (Binder b) f w = let k = f .binders in omega arith
 
-pub level-fits : (h : Head) (l : ℕ) → HeadWithin h → Level h l → l < 8
+pub level-fits : (h : Head) (l : ℕ) → HeadWithin h → Level h l → l < levels
 level-fits h l f (inl a) = let k = f .top in omega arith
 level-fits h l f (inr e) = omega arith
 
-pub able-level : (n : Node) (l : ℕ) (old new : List ℕ) → Able n l old new → l < 8
+pub able-level : (n : Node) (l : ℕ) (old new : SetRow) → Able n l old new → l < levels
 able-level n l old new a = level-fits (a .head) l (a .lent .fits) (a .lent .leveled)
 
-pub inner-fits : (m l : ℕ) (old new : List ℕ) → Able (Bracket m) l old new → m < 8
+pub inner-fits : (m l : ℕ) (old new : SetRow) → Able (Bracket m) l old new → m < levels
 inner-fits m l old new a = let k = a .lent .fits .top in let w = a .within in omega arith
 
-pub binder-fits : (x : Marker) (y b l : ℕ) (old new : List ℕ) → Able (Receive x y b) l old new → b < 32
+pub binder-fits : (x : Marker) (y b l : ℕ) (old new : SetRow) → Able (Receive x y b) l old new → b < mostBinders
 binder-fits x y b l old new a = let k = a .lent .fits .binders in let w = a .within .2 in omega arith
 
 -- ---- markers
@@ -58,16 +56,19 @@ same-binders {x} {y} {c} {d} p q = says-equal c d ((λ (e : x ≡ y). cc), λ (e
 pub not-same : {P : Type 0} → (P → _≡_ {A = ℕ} 0 1) → Decides false P
 not-same g = says-no (λ p. let z = g p in omega arith)
 
-pub set-of-channel : (t : List ℕ) (x : Marker) (d r : ℕ) → x ≡ Channel d → Members r (λ c. c ≡ d) → Members r (SetOf (inTable t) x)
+pub set-of-channel : (t : SetRow) (x : Marker) (d r : ℕ) → x ≡ Channel d → Members r (λ c. c ≡ d) → Members r (SetOf (inTable t) x)
 set-of-channel t x d r e m = subst⁻¹ (λ y. Members r (SetOf (inTable t) y)) e m
 
-pub set-of-binder : (t : List ℕ) (x : Marker) (b : ℕ) → x ≡ Binder b → b < 32 → Members (getD t b 0) (SetOf (inTable t) x)
-set-of-binder t x b e b32 =
-    subst⁻¹ (λ y. Members (getD t b 0) (SetOf (inTable t) y)) e (record { has = λ o. ((λ h. (b32, h)), (λ h. h .1)) })
+pub single-narrow : (w d r : ℕ) → d < w → Members r (λ c. c ≡ d) → Narrow w r
+single-narrow w d r fits m c h = omega (arith, m .has c .0 h)
+
+pub set-of-binder : (t : SetRow) (x : Marker) (b r : ℕ) → x ≡ Binder b → b < mostBinders → r ≡ setAt t b → Members r (SetOf (inTable t) x)
+set-of-binder t x b r e fits q =
+    subst⁻¹ (λ y. Members r (SetOf (inTable t) y)) e (record { has = λ o. ((λ h. (fits, subst (λ s. Has s o) q h)), (λ h. subst⁻¹ (λ s. Has s o) q (h .1))) })
 
 -- ---- the ways in which a clause ends
 
-module _ (n : Node) (l : ℕ) (live : Bool) (old new : List ℕ) where
+module _ (n : Node) (l : ℕ) (live : Bool) (old new : SetRow) where
   -- its condition does not hold
   pub asks-not : length new ≡ tableSize → (T live → Condition n (inTable old) → ⊥) → Asked n l live old new false new
   asks-not z h = record { goes = (absurd, λ w. h (w .0) (w .1)); adds = adds-none new (λ f w. w .0); sized = z }
@@ -76,7 +77,7 @@ module _ (n : Node) (l : ℕ) (live : Bool) (old new : List ℕ) where
   not-live z e = asks-not z (λ t c. subst T e t)
 
   -- it holds, and what the node wants is added
-  pub asks : (then : List ℕ) → length then ≡ tableSize → live ≡ true → Condition n (inTable old) → Adds new then (Own n l (inTable old))
+  pub asks : (then : SetRow) → length then ≡ tableSize → live ≡ true → Condition n (inTable old) → Adds new then (Own n l (inTable old))
       → Asked n l live old new true then
   asks then z e c a = record {
     goes = ((λ _. (subst⁻¹ T e tt, c)), λ _. tt);
@@ -95,16 +96,16 @@ module _ (n : Node) (l : ℕ) (live : Bool) (old new : List ℕ) where
   passes z c h = record { goes = ((λ t. (t, c)), λ w. w .0); adds = adds-none new (λ f w. h f (w .1)); sized = z }
 
 -- a node that is known to be m
-pub able-at : (m n : Node) (l : ℕ) (old new : List ℕ) → n ≡ m → Able n l old new → Able m l old new
+pub able-at : (m n : Node) (l : ℕ) (old new : SetRow) → n ≡ m → Able n l old new → Able m l old new
 able-at m n l old new e h = subst (λ k. Able k l old new) e h
 
-pub stepped-at : (m n : Node) (l : ℕ) (live r : Bool) (old new then : List ℕ) → n ≡ m → Asked m l live old new r then
+pub stepped-at : (m n : Node) (l : ℕ) (live r : Bool) (old new then : SetRow) → n ≡ m → Asked m l live old new r then
     → Stepped n l live old new (record { branches = branchCount m; level = levelIn m l; live = r }) then
 stepped-at m n l live r old new then e h =
     subst⁻¹ (λ k. Stepped k l live old new (record { branches = branchCount m; level = levelIn m l; live = r }) then) e
     (record { branches = refl; level-in = refl; asked = h })
 
-pub passes-at : (m n : Node) (l : ℕ) (live : Bool) (old new : List ℕ) → length new ≡ tableSize → n ≡ m → Condition m (inTable old)
+pub passes-at : (m n : Node) (l : ℕ) (live : Bool) (old new : SetRow) → length new ≡ tableSize → n ≡ m → Condition m (inTable old)
     → ((f : Fact) → Own m l (inTable old) f → ⊥)
     → Stepped n l live old new (record { branches = branchCount m; level = levelIn m l; live = live }) new
 passes-at m n l live old new z e c h = stepped-at m n l live live old new new e (passes m l live old new z c h)
@@ -114,117 +115,111 @@ no-more e = ((λ a. inl (e .0 a)), ⊎-elim (λ b. e .1 b) absurd)
 
 -- ---- send
 
-pub send-asks : (old : List ℕ) (x y : Marker) (a b : ℕ) → Members a (SetOf (inTable old) x) → Members b (SetOf (inTable old) y)
+pub send-asks : (old : SetRow) (x y : Marker) (a b : ℕ) → Members a (SetOf (inTable old) x) → Members b (SetOf (inTable old) y)
     → (Empty a → ⊥) → (Empty b → ⊥) → Some (inTable old) x × Some (inTable old) y
 send-asks old x y a b ma mb na nb = (members-some a (SetOf (inTable old) x) ma na, members-some b (SetOf (inTable old) y) mb nb)
 
-pub send-adds : (old t r : List ℕ) (x y : Marker) (l a b base : ℕ) → l < 8 → a < 2 ^ 32
+pub send-adds : (old t r : SetRow) (x y : Marker) (l a b base : ℕ) → l < levels → Narrow mostChannels a
     → Members a (SetOf (inTable old) x) → Members b (SetOf (inTable old) y)
     → base ≡ outsAt l → Joins t r (Over base (Has a) (λ c. Has b)) → Adds t r (SendWants (inTable old) x y l)
-send-adds old t r x y l a b base l8 fits ma mb at joined = record { adds = go }
+send-adds old t r x y l a b base level narrow ma mb at joined = record { adds = go }
   where
     js : Joins t r (Over (outsAt l) (Has a) (λ c. Has b))
     js = subst (λ k. Joins t r (Over k (Has a) (λ c. Has b))) at joined
 
-    bound : (c : ℕ) → Has a c → c < 32
-    bound c h = below 32 a c fits h
-
     go : (f : Fact) → inTable r f ↔ (inTable t f ⊎ SendWants (inTable old) x y l f)
-    go (binderSet d o) = no-more (binder-kept 288 l (Has a) (λ c. Has b) bound js (omega arith) d o)
-    go (inSet m c o) = no-more (row-kept 288 l (Has a) (λ c. Has b) bound js 32 l8 (inl (omega arith)) m c o)
+    go (binderSet d o) = no-more (binder-kept mostChannels outsStart l (Has a) (λ c. Has b) narrow js mostBinders (omega arith) d o)
+    go (inSet m c o) = no-more (row-kept mostChannels outsStart l (Has a) (λ c. Has b) narrow js levels insStart level (inl (omega arith)) m c o)
     go (outSet m c o) =
-        let e = row-joined 288 l (Has a) (λ c. Has b) bound js l8 m c o in (
+        let e = row-joined mostChannels outsStart l (Has a) (λ c. Has b) narrow js levels level m c o in (
           (λ h. ⊎-elim inl (λ w. inr (w .0, ma .has c .0 (w .1), mb .has o .0 (w .2))) (e .0 h)),
           ⊎-elim (λ h. e .1 (inl h)) (λ w. e .1 (inr (w .0, ma .has c .1 (w .1), mb .has o .1 (w .2)))),
         )
 
 -- ---- receive
 
-pub sounding-heard : (old : List ℕ) (x : Marker) (a : ℕ) → a < 2 ^ 32 → Members a (SetOf (inTable old) x)
+pub sounding-heard : (old : SetRow) (x : Marker) (a : ℕ) → Narrow mostChannels a → Members a (SetOf (inTable old) x)
     → Sounding old (Has a) ↔ Heard (inTable old) x
-sounding-heard old x a fits ma = (
-  (λ w. let c = w .1 .2 in (c .0, ma .has (c .0) .0 (c .1), (w .1 .0, w .0, (w .1 .1, below 32 a (c .0) fits (c .1), c .2)))),
+sounding-heard old x a narrow ma = (
+  (λ w. let c = w .1 .2 in (c .0, ma .has (c .0) .0 (c .1), (w .1 .0, w .0, (w .1 .1, narrow (c .0) (c .1), c .2)))),
   (λ w. let h = w .2 .2 in (w .2 .1, (w .2 .0, h .0, (w .0, ma .has (w .0) .1 (w .1), h .2)))),
 )
 
-pub receive-adds : (old t i : List ℕ) (x : Marker) (b l a what start : ℕ) → l < 8 → b < 32 → b < length i → a < 2 ^ 32
-    → Members a (SetOf (inTable old) x) → Joins t i (Over (insAt l) (Has a) (SentOn old 8))
-    → start ≡ insAt l → Members what (Together old start (Has a))
-    → Adds t (set i b (bitOr (getD i b 0) what)) (ReceiveWants (inTable old) x b l)
-receive-adds old t i x b l a what start l8 b32 long fits ma js from united = record { adds = go }
+pub receive-adds : (old t i r : SetRow) (x : Marker) (b l a what start : ℕ) → l < levels → b < mostBinders → Narrow mostChannels a
+    → Members a (SetOf (inTable old) x) → Joins t i (Over (insAt l) (Has a) (SentOn old levels))
+    → start ≡ insAt l → Members what (Together old start (Has a)) → Joins i r (Only b what)
+    → Adds t r (ReceiveWants (inTable old) x b l)
+receive-adds old t i r x b l a what start level binder narrow ma js from united bound = record { adds = go }
   where
     mw : Members what (Together old (insAt l) (Has a))
     mw = subst (λ k. Members what (Together old k (Has a))) from united
 
-    bound : (c : ℕ) → Has a c → c < 32
-    bound c h = below 32 a c fits h
-
-    go : (f : Fact) → inTable (set i b (bitOr (getD i b 0) what)) f ↔ (inTable t f ⊎ ReceiveWants (inTable old) x b l f)
+    go : (f : Fact) → inTable r f ↔ (inTable t f ⊎ ReceiveWants (inTable old) x b l f)
     go (binderSet d o) =
-        let e = binder-joined i b what long d o in
-        let k = binder-kept 32 l (Has a) (SentOn old 8) bound js (omega arith) d o in (
+        let e = binder-joined b what bound mostBinders d o in
+        let k = binder-kept mostChannels insStart l (Has a) (SentOn old levels) narrow js mostBinders (omega arith) d o in (
           (λ h. ⊎-elim (λ z. inl (k .0 z)) (λ w. let u = mw .has o .0 (w .2) in
-              inr (w .1, (u .0, ma .has (u .0) .0 (u .1), (l8, bound (u .0) (u .1), u .2)))) (e .0 h)),
+              inr (w .1, (u .0, ma .has (u .0) .0 (u .1), (level, narrow (u .0) (u .1), u .2)))) (e .0 h)),
           ⊎-elim (λ h. e .1 (inl (k .1 h))) (λ w. let u = w .1 in e .1 (inr (
-            subst⁻¹ (λ n. n < 32) (w .0) b32,
+            subst⁻¹ (λ n. n < mostBinders) (w .0) binder,
             w .0,
             mw .has o .1 (u .0, ma .has (u .0) .1 (u .1), u .2 .2),
           ))),
         )
-    go (inSet m c o) = Iff·trans (beside-binder i b what long 32 (omega arith) b32 m c o) (
-        let e = row-joined 32 l (Has a) (SentOn old 8) bound js l8 m c o in (
-          (λ h. ⊎-elim inl (λ w. let u = w .2 in inr (w .0, ma .has c .0 (w .1), (u .0, (u .1, bound c (w .1), u .2)))) (e .0 h)),
+    go (inSet m c o) = Iff·trans (beside-binder b what bound mostChannels levels insStart binder m c o) (
+        let e = row-joined mostChannels insStart l (Has a) (SentOn old levels) narrow js levels level m c o in (
+          (λ h. ⊎-elim inl (λ w. let u = w .2 in inr (w .0, ma .has c .0 (w .1), (u .0, (u .1, narrow c (w .1), u .2)))) (e .0 h)),
           ⊎-elim (λ h. e .1 (inl h)) (λ w. let u = w .2 in e .1 (inr (w .0, ma .has c .1 (w .1), (u .0, u .1 .0, u .1 .2)))),
         ))
-    go (outSet m c o) = no-more (Iff·trans (beside-binder i b what long 288 (omega arith) b32 m c o)
-        (row-kept 32 l (Has a) (SentOn old 8) bound js 288 l8 (inr (omega arith)) m c o))
+    go (outSet m c o) = no-more (Iff·trans (beside-binder b what bound mostChannels levels outsStart (omega arith) m c o)
+        (row-kept mostChannels insStart l (Has a) (SentOn old levels) narrow js levels outsStart level (inr (omega arith)) m c o))
 
 -- ---- match
 
-pub meets-of : (old : List ℕ) (x y : Marker) (a b : ℕ) → Members a (SetOf (inTable old) x) → Members b (SetOf (inTable old) y)
+pub meets-of : (old : SetRow) (x y : Marker) (a b : ℕ) → Members a (SetOf (inTable old) x) → Members b (SetOf (inTable old) y)
     → Meet a b → Meets (inTable old) x y
 meets-of old x y a b ma mb w = inl (w .0, ma .has (w .0) .0 (w .1), mb .has (w .0) .0 (w .2))
 
-pub apart-of : (old : List ℕ) (x y : Marker) (a b : ℕ) → Members a (SetOf (inTable old) x) → Members b (SetOf (inTable old) y)
+pub apart-of : (old : SetRow) (x y : Marker) (a b : ℕ) → Members a (SetOf (inTable old) x) → Members b (SetOf (inTable old) y)
     → (Meet a b → ⊥) → (x ≡ y → ⊥) → Meets (inTable old) x y → ⊥
 apart-of old x y a b ma mb n d (inl w) = n (w .0, ma .has (w .0) .1 (w .1), mb .has (w .0) .1 (w .2))
 apart-of old x y a b ma mb n d (inr e) = d e
 
 -- ---- bracket
 
--- every channel of the 32
-abbrev Every : ℕ → Type 0
-Every = Has 4294967295
+module _ (every : ℕ) (all : Members every (λ c. c < mostChannels)) where
+  every-narrow : Narrow mostChannels every
+  every-narrow c h = all .has c .0 h
 
-every-below : (c : ℕ) → Every c → c < 32
-every-below c h = below 32 4294967295 c (lit< tt) h
+  merged : (start l m : ℕ) (old t r : SetRow) → l < levels → m < levels
+      → Joins t r (Over (start + l * mostChannels) (Has every) (From old (start + m * mostChannels)))
+      → (j c o : ℕ) → At mostChannels levels start r j c o ↔ (At mostChannels levels start t j c o ⊎ ((j ≡ l) × At mostChannels levels start old m c o))
+  merged start l m old t r level inner js j c o =
+      let e = row-joined mostChannels start l (Has every) (From old (start + m * mostChannels)) every-narrow js levels level j c o in (
+        (λ h. ⊎-elim inl (λ w. inr (w .0, (inner, every-narrow c (w .1), w .2))) (e .0 h)),
+        ⊎-elim (λ h. e .1 (inl h)) (λ w. e .1 (inr (w .0, all .has c .1 (w .1 .1), w .1 .2))),
+      )
 
-merged : (start l m : ℕ) (old t r : List ℕ) → l < 8 → m < 8 → Joins t r (Over (start + l * 32) Every (From old (start + m * 32)))
-    → (j c o : ℕ) → At start r j c o ↔ (At start t j c o ⊎ ((j ≡ l) × At start old m c o))
-merged start l m old t r l8 m8 js j c o =
-    let e = row-joined start l Every (From old (start + m * 32)) every-below js l8 j c o in (
-      (λ h. ⊎-elim inl (λ w. inr (w .0, (m8, every-below c (w .1), w .2))) (e .0 h)),
-      ⊎-elim (λ h. e .1 (inl h)) (λ w. e .1 (inr (w .0, full 32 c (w .1 .1), w .1 .2))),
-    )
+  pub bracket-adds : (old t i r : SetRow) (m l bi si bo so : ℕ) → l < levels → m < levels
+      → bi ≡ insAt l → si ≡ insAt m → Joins t i (Over bi (Has every) (From old si))
+      → bo ≡ outsAt l → so ≡ outsAt m → Joins i r (Over bo (Has every) (From old so))
+      → Adds t r (BracketWants (inTable old) m l)
+  bracket-adds old t i r m l bi si bo so level inner ei fi ins eo fo outs = record { adds = go }
+    where
+      ji : Joins t i (Over (insAt l) (Has every) (From old (insAt m)))
+      ji = merged-at old (Has every) ei fi ins
 
-pub bracket-adds : (old t i r : List ℕ) (m l bi si bo so : ℕ) → l < 8 → m < 8
-    → bi ≡ insAt l → si ≡ insAt m → Joins t i (Over bi Every (From old si))
-    → bo ≡ outsAt l → so ≡ outsAt m → Joins i r (Over bo Every (From old so))
-    → Adds t r (BracketWants (inTable old) m l)
-bracket-adds old t i r m l bi si bo so l8 m8 ei fi ins eo fo outs = record { adds = go }
-  where
-    ji : Joins t i (Over (insAt l) Every (From old (insAt m)))
-    ji = merged-at old Every ei fi ins
+      jo : Joins i r (Over (outsAt l) (Has every) (From old (outsAt m)))
+      jo = merged-at old (Has every) eo fo outs
 
-    jo : Joins i r (Over (outsAt l) Every (From old (outsAt m)))
-    jo = merged-at old Every eo fo outs
-
-    go : (f : Fact) → inTable r f ↔ (inTable t f ⊎ BracketWants (inTable old) m l f)
-    go (binderSet d o) = no-more (Iff·trans (binder-kept 288 l Every (From old (outsAt m)) every-below jo (omega arith) d o)
-        (binder-kept 32 l Every (From old (insAt m)) every-below ji (omega arith) d o))
-    go (inSet j c o) = Iff·trans (row-kept 288 l Every (From old (outsAt m)) every-below jo 32 l8 (inl (omega arith)) j c o)
-        (merged 32 l m old t i l8 m8 ji j c o)
-    go (outSet j c o) =
-        let e = merged 288 l m old i r l8 m8 jo j c o in
-        let k = row-kept 32 l Every (From old (insAt m)) every-below ji 288 l8 (inr (omega arith)) j c o in
-        ((λ h. ⊎-elim (λ z. inl (k .0 z)) inr (e .0 h)), ⊎-elim (λ h. e .1 (inl (k .1 h))) (λ w. e .1 (inr w)))
+      go : (f : Fact) → inTable r f ↔ (inTable t f ⊎ BracketWants (inTable old) m l f)
+      go (binderSet d o) = no-more (Iff·trans
+          (binder-kept mostChannels outsStart l (Has every) (From old (outsAt m)) every-narrow jo mostBinders (omega arith) d o)
+          (binder-kept mostChannels insStart l (Has every) (From old (insAt m)) every-narrow ji mostBinders (omega arith) d o))
+      go (inSet j c o) = Iff·trans
+          (row-kept mostChannels outsStart l (Has every) (From old (outsAt m)) every-narrow jo levels insStart level (inl (omega arith)) j c o)
+          (merged insStart l m old t i level inner ji j c o)
+      go (outSet j c o) =
+          let e = merged outsStart l m old i r level inner jo j c o in
+          let k = row-kept mostChannels insStart l (Has every) (From old (insAt m)) every-narrow ji levels outsStart level (inr (omega arith)) j c o in
+          ((λ h. ⊎-elim (λ z. inl (k .0 z)) inr (e .0 h)), ⊎-elim (λ h. e .1 (inl (k .1 h))) (λ w. e .1 (inr w)))

@@ -6,14 +6,14 @@ use mathlib.Core.List.{List, [], _∷_, _++_, append-nil}
 use mathlib.Core.Logic.{_↔_, _⊎_, inl, inr, ⊎-elim}
 use native.Mathlib.Omega.{arith}
 use lib.ListN.{length}
-use Rattle.reading.specs.declared.Head.{Head}
-use Rattle.reading.specs.declared.Node.{Node}
-use Rattle.reading.specs.declared.Node.the-variants.{Nil, Silent, Send, Receive, Sum, Parallel, Restriction, Match, Replication, Bracket}
-use Rattle.reading.specs.Promise.{NodeWithin}
+use Rattle.lines.specs.declared.Head.{Head}
+use Rattle.lines.specs.declared.Node.{Node}
+use Rattle.lines.specs.declared.Node.the-variants.{Nil, Silent, Send, Receive, Sum, Parallel, Restriction, Match, Replication, Bracket}
+use Rattle.lines.specs.Promise.{NodeWithin}
 use Rattle.reading.specs.Tree.{branchCount, Tree, nil, silent, send, receive, sum, parallel, restriction, match, replication, bracket, listing, depth}
 use Rattle.solving.specs.Solutions.{Fact, Sets, Level}
 use Rattle.solving.specs.Rounds.{Wants}
-use Rattle.solving.specs.Walk.{Condition, Own, levelIn, listings, EachDepth, SomeWants}
+use Rattle.solving.specs.inner.Walk.{Condition, Own, levelIn, listings, EachDepth, SomeWants}
 
 abbrev pub nodeOf : Tree → Node
 nodeOf nil = Nil

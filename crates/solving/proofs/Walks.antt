@@ -8,16 +8,17 @@ use mathlib.Core.Logic.{_↔_, _≢_, _⊎_, inl, inr, ⊎-elim}
 use native.Mathlib.Omega.{arith}
 use lib.Dec.{T}
 use lib.ListN.{length, length-append}
-use Rattle.reading.specs.declared.Head.{Head}
-use Rattle.reading.specs.declared.Node.{Node}
+use Rattle.lines.specs.declared.Head.{Head}
+use Rattle.lines.specs.declared.Node.{Node}
 use Rattle.reading.specs.declared.Slot.{Slot}
-use Rattle.reading.specs.Promise.{NodeWithin, EachWithin}
+use Rattle.lines.specs.Promise.{NodeWithin}
+use Rattle.reading.specs.Promise.{EachWithin}
 use Rattle.reading.specs.Tree.{branchCount, Tree, listing}
 use Rattle.solving.specs.declared.clauses.Step.{Step}
 use Rattle.solving.specs.Solutions.{Fact, Level}
 use Rattle.solving.specs.Rounds.{Wants}
-use Rattle.solving.specs.Table.{inTable, tableSize, Adds}
-use Rattle.solving.specs.Walk.{Condition, Own, levelIn, Able, Asked, Stepped, nodeAt, Stands, listings, EachDepth, SomeWants, Planted, Ready, Walked}
+use Rattle.solving.specs.inner.Table.{inTable, tableSize, Adds}
+use Rattle.solving.specs.inner.Walk.{Condition, Own, levelIn, Able, Asked, Stepped, nodeAt, Stands, listings, EachDepth, SomeWants, Planted, Ready, Walked}
 use Rattle.solving.proofs.Ranges.{within-split}
 use Rattle.solving.proofs.Tables.{adds-none, adds-both, adds-same}
 use Rattle.solving.proofs.Trees.{nodeOf, branchesOf, tree-branches, tree-listing, tree-depth, tree-wants, level-inside, few-branches}

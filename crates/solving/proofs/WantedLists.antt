@@ -6,13 +6,13 @@ use mathlib.Core.List.{List, [], _∷_, _++_}
 use mathlib.Core.Logic.{_↔_, _⊎_, inl, inr, ⊎-elim, Iff·trans}
 use native.Mathlib.Omega.{arith}
 use lib.Dec.{eqb}
-use Rattle.reading.specs.declared.Marker.{Marker}
-use Rattle.reading.specs.declared.Marker.the-variants.{Channel, Binder}
+use Rattle.lines.specs.declared.Marker.{Marker}
+use Rattle.lines.specs.declared.Marker.the-variants.{Channel, Binder}
 use Rattle.reading.specs.Tree.{Tree, nil, silent, send, receive, sum, parallel, restriction, match, replication, bracket}
 use Rattle.solving.specs.Solutions.{Fact, binderSet, inSet, outSet, Sets, SetOf}
 use Rattle.solving.specs.Clauses.{Some, Heard, Meets}
 use Rattle.solving.specs.Rounds.{SendWants, ReceiveWants, BracketWants, Wants}
-use Rattle.solving.specs.Compute.{each, when, ifSome, ofBinder, ofIn, ofOut, setIn, insIn, outsIn, alike, meetsIn, raised, sendWanted, receiveWanted, wanted}
+use Rattle.solving.specs.inner.Compute.{each, when, ifSome, ofBinder, ofIn, ofOut, setIn, insIn, outsIn, alike, meetsIn, raised, sendWanted, receiveWanted, wanted}
 use Rattle.solving.proofs.Lists.{Mem, mem-append, mem-each, mem-when, mem-if, mem-one, mem-pairs}
 
 -- a list of facts as a solution

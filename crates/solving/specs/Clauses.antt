@@ -3,9 +3,10 @@
 use Prim.Native.Nat.{ℕ}
 use mathlib.Core.Path.{_≡_}
 use mathlib.Core.Logic.{_⊎_}
-use Rattle.reading.specs.declared.Marker.{Marker}
+use Rattle.limits.specs.Limits.{outermost}
+use Rattle.lines.specs.declared.Marker.{Marker}
 use Rattle.reading.specs.Tree.{Tree, nil, silent, send, receive, sum, parallel, restriction, match, replication, bracket}
-use Rattle.solving.specs.Solutions.{binderSet, inSet, outSet, Sets, SetOf, outermost}
+use Rattle.solving.specs.Solutions.{binderSet, inSet, outSet, Sets, SetOf}
 
 -- S(x) is non-empty
 abbrev pub Some : Sets → Marker → Type 0

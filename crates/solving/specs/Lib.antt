@@ -5,9 +5,5 @@ pub mod Rounds
 pub mod Least
 pub mod Solve
 pub mod Demand
--- The same, computed.
-pub mod Compute
-pub mod Example
--- For the code's inner contracts alone.
-pub mod Table
-pub mod Walk
+-- For inner contracts and for computing: nothing that a caller has to believe.
+pub mod inner

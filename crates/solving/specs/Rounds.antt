@@ -3,11 +3,11 @@
 use Prim.Native.Nat.{ℕ, zero, suc, _+_, _*_, _<_}
 use mathlib.Core.Path.{_≡_}
 use mathlib.Core.Logic.{_⊎_}
-use Rattle.reading.specs.declared.Head.{Head}
-use Rattle.reading.specs.declared.Marker.{Marker}
-use Rattle.reading.specs.Limits.{mostChannels, mostBinders, highestLevel}
+use Rattle.limits.specs.Limits.{outermost, mostChannels, mostBinders, highestLevel}
+use Rattle.lines.specs.declared.Head.{Head}
+use Rattle.lines.specs.declared.Marker.{Marker}
 use Rattle.reading.specs.Tree.{Tree, nil, silent, send, receive, sum, parallel, restriction, match, replication, bracket}
-use Rattle.solving.specs.Solutions.{Fact, binderSet, inSet, outSet, Sets, SetOf, outermost}
+use Rattle.solving.specs.Solutions.{Fact, binderSet, inSet, outSet, Sets, SetOf}
 use Rattle.solving.specs.Clauses.{Some, Heard, Meets}
 
 -- what a send's clause wants included, where its condition holds

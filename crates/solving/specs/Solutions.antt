@@ -1,18 +1,15 @@
 -- Document 01, 'Acceptable solutions', where it says what a solution is: its sets, S(x), and when one is contained in another.
 -- Assumes nothing.
-use Prim.Native.Nat.{ℕ, _+_, _*_, _<_, _≤_}
+use Prim.Native.Nat.{ℕ, _<_, _≤_}
 use mathlib.Core.Path.{_≡_}
 use mathlib.Core.Logic.{_⊎_}
-use lib.ListN.{length, getD}
-use Rattle.sets.specs.Set.{Has}
-use Rattle.reading.specs.declared.Head.{Head}
-use Rattle.reading.specs.declared.Marker.{Marker}
-use Rattle.reading.specs.declared.Marker.the-variants.{Channel, Binder}
+use lib.ListN.{length}
+use Rattle.limits.specs.Limits.{mostChannels, mostBinders, outermost, levels, placeOf, levelSets}
+use Rattle.sets.specs.Rows.{HasAt}
+use Rattle.lines.specs.declared.Head.{Head}
+use Rattle.lines.specs.declared.Marker.{Marker}
+use Rattle.lines.specs.declared.Marker.the-variants.{Channel, Binder}
 use Rattle.solving.specs.declared.Solution.{Solution}
-
--- the outermost level, # in document 000
-abbrev pub outermost : ℕ
-outermost = 7
 
 -- one membership: channel o is in binder b's set; in in(l, c); in out(l, c)
 pub data Fact : Type 0 where
@@ -49,12 +46,12 @@ LiesWithin h s = (f : Fact) → s f → InRange h f
 
 -- the arrays as a solution: eight levels, # the last of them, and 32 channels and binders are the most there are
 abbrev pub membersIn : Solution → Sets
-membersIn s (binderSet b o) = (b < 32) × Has (getD (s .binders) b 0) o
-membersIn s (inSet l c o) = (l < 8) × (c < 32) × Has (getD (s .ins) (l * 32 + c) 0) o
-membersIn s (outSet l c o) = (l < 8) × (c < 32) × Has (getD (s .outs) (l * 32 + c) 0) o
+membersIn s (binderSet b o) = (b < mostBinders) × HasAt (s .binders) b o
+membersIn s (inSet l c o) = (l < levels) × (c < mostChannels) × HasAt (s .ins) (placeOf l c) o
+membersIn s (outSet l c o) = (l < levels) × (c < mostChannels) × HasAt (s .outs) (placeOf l c) o
 
 -- the arrays are as long as their types say
 pub record Sized (s : Solution) : Type 0 where
-  pub binders : length (s .binders) ≡ 32
-  pub ins : length (s .ins) ≡ 256
-  pub outs : length (s .outs) ≡ 256
+  pub binders : length (s .binders) ≡ mostBinders
+  pub ins : length (s .ins) ≡ levelSets
+  pub outs : length (s .outs) ≡ levelSets

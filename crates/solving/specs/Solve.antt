@@ -3,8 +3,9 @@
 use Prim.Native.Nat.{ℕ, _≤_}
 use mathlib.Core.Path.{_≡_}
 use mathlib.Core.Logic.{_⊎_}
-use lib.ListN.{replicate}
-use Rattle.reading.specs.declared.Head.{Head}
+use Rattle.limits.specs.Limits.{mostBinders, levelSets}
+use Rattle.sets.specs.Rows.{emptyRow}
+use Rattle.lines.specs.declared.Head.{Head}
 use Rattle.reading.specs.declared.Refusal.{Refusal}
 use Rattle.reading.specs.Plan.{Outcome, refused, read, Plan, noHead, noRefusal}
 use Rattle.reading.specs.Tree.{Tree}
@@ -15,7 +16,7 @@ use Rattle.solving.specs.Rounds.{Count, Exceeds}
 use Rattle.solving.specs.Least.{LeastArrays}
 
 abbrev pub emptySolution : Solution
-emptySolution = record { binders = replicate 32 0; ins = replicate 256 0; outs = replicate 256 0 }
+emptySolution = record { binders = emptyRow mostBinders; ins = emptyRow levelSets; outs = emptyRow levelSets }
 
 -- a refusal: all sets empty, count 0
 abbrev pub refusedBy : Refusal → Solved
@@ -36,11 +37,11 @@ pub record Answered (h : Head) (p : Tree) (allowance : ℕ) (r : Solved) : Type 
   pub sized : Sized (r .solution)
 
 -- it exceeds the allowance: refusal 14
-pub record Over (p : Tree) (allowance : ℕ) (r : Solved) : Type 0 where
+pub record RoundsSpent (p : Tree) (allowance : ℕ) (r : Solved) : Type 0 where
   pub exceeds : Exceeds p allowance
   pub is : r ≡ refusedBy overAllowance
 
 -- what is answered, by what the text reads as: refusals 1 to 13 are reading's
 abbrev pub Solves : Outcome Plan → ℕ → Solved → Type 0
 Solves (refused f) allowance r = r ≡ refusedBy f
-Solves (read plan) allowance r = Answered (plan .head) (plan .tree) allowance r ⊎ Over (plan .tree) allowance r
+Solves (read plan) allowance r = Answered (plan .head) (plan .tree) allowance r ⊎ RoundsSpent (plan .tree) allowance r

@@ -2,18 +2,15 @@
 // `old` is the table as it was when the round began, and `new` the one that is added to; a node that is not `live` adds nothing.
 ghost use mathlib.Core.Path.{_≡_};
 ghost use Rattle.sets.specs.Set.{Decides};
-ghost use Rattle.solving.specs.Walk.{Able, Asked, Stepped};
+ghost use Rattle.solving.specs.inner.Walk.{Able, Asked, Stepped};
 use crate::table::Table;
 use crate::table::gather;
 use crate::table::heard;
 use crate::table::ins_at;
 use crate::table::outs_at;
 use crate::table::set_of;
-use reading::Marker;
-use reading::Node;
-
-// The set of every channel.
-const EVERY: u32 = 4294967295;
+use lines::Marker;
+use lines::Node;
 
 // How many branches a node has, at which level they stand, and whether they are asked to hold.
 pub(crate) struct Step {
@@ -61,8 +58,7 @@ fn receiving(
         if heard(old, from) {
             gather(new, level, from, old);
             let what = sets::rows::together(old, ins_at(level), from);
-            let i = binder as usize;
-            new[i] = new[i] | what;
+            sets::rows::join_at(new, binder as usize, what);
             return true;
         }
         return false;
@@ -109,8 +105,9 @@ fn bracketing(inner: u8, level: u8, live: bool, old: &Table, new: &mut Table) ->
     ensures { λ r. ⌜ Asked (Node.Bracket inner) level live (now (old .entry)) (now (new .entry)) r (now (new .exit)) ⌝ }
 {
     if live {
-        sets::rows::merge(new, ins_at(level), old, ins_at(inner), EVERY);
-        sets::rows::merge(new, outs_at(level), old, outs_at(inner), EVERY);
+        let every = sets::every();
+        sets::rows::merge(new, ins_at(level), old, ins_at(inner), every);
+        sets::rows::merge(new, outs_at(level), old, outs_at(inner), every);
         return true;
     }
     false

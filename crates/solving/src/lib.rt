@@ -7,22 +7,22 @@ mod walk;
 
 ghost use Rattle.reading.specs.Plan.{planIn};
 ghost use Rattle.solving.specs.Solve.{Solves};
-use reading::Head;
+use limits::BINDER_SETS;
+use limits::LEVEL_SETS;
+use lines::Head;
 use reading::Refusal;
 use rounds::refused;
 use rounds::settle;
+use sets::Set;
 
 // No plan's count of rounds is higher.
 pub const CEILING: u16 = 17409;
 
-// The outermost level, # in document 000.
-pub const OUTERMOST: u8 = 7;
-
-// A solution: a set of channels for each binder, and an in set and an out set for each level and channel, at level * 32 + channel.
+// A solution: a set of channels for each binder, and an in set and an out set for each level and channel, those of a level side by side.
 pub struct Solution {
-    pub binders: [u32; 32],
-    pub ins: [u32; 256],
-    pub outs: [u32; 256],
+    pub binders: [Set; BINDER_SETS],
+    pub ins: [Set; LEVEL_SETS],
+    pub outs: [Set; LEVEL_SETS],
 }
 
 // What solving a text answers. A refused text has no head, no count and no member in any set.

@@ -1,29 +1,30 @@
 // Rounds from empty sets, up to the first that adds nothing or to the end of the allowance.
 ghost use mathlib.Core.Path.{_≡_};
 ghost use Rattle.solving.specs.Solve.{refusedBy};
-ghost use Rattle.solving.specs.Walk.{Spelled, IsPlan, Rounded, Settles};
-use crate::OUTERMOST;
+ghost use Rattle.solving.specs.inner.Walk.{Spelled, IsPlan, Rounded, Settles};
 use crate::Solution;
 use crate::Solved;
 use crate::table::Table;
 use crate::table::empty;
 use crate::table::solution_of;
 use crate::walk::walk_node;
-use reading::Head;
+use limits::BINDER_SETS;
+use limits::LEVEL_SETS;
+use limits::MOST_DEPTH;
+use limits::MOST_NODES;
+use limits::OUTERMOST;
+use lines::Head;
 use reading::Refusal;
 use reading::Slot;
 
-// The most that a tree may be deep.
-const DEPTH: usize = 32;
-
 // The table after one round more: everything that the walk from the root wants is added, and every set is read as it was.
-fn round(nodes: [Slot; 256], table: Table) -> Table
+fn round(nodes: [Slot; MOST_NODES], table: Table) -> Table
     requires { ⌜ IsPlan nodes ⌝ }
     ensures { λ r. ⌜ Rounded nodes table r ⌝ }
 {
     let old = table;
     let mut new = table;
-    walk_node(DEPTH, nodes, 0, OUTERMOST, true, &old, &mut new);
+    walk_node(MOST_DEPTH, nodes, 0, OUTERMOST, true, &old, &mut new);
     new
 }
 
@@ -31,6 +32,7 @@ fn round(nodes: [Slot; 256], table: Table) -> Table
 pub(crate) fn refused(refusal: Refusal) -> Solved
     ensures { λ r. ⌜ r ≡ refusedBy refusal ⌝ }
 {
+    let none = sets::empty();
     Solved {
         refusal,
         head: Head {
@@ -41,16 +43,16 @@ pub(crate) fn refused(refusal: Refusal) -> Solved
         },
         count: 0,
         solution: Solution {
-            binders: [0; 32],
-            ins: [0; 256],
-            outs: [0; 256],
+            binders: [none; BINDER_SETS],
+            ins: [none; LEVEL_SETS],
+            outs: [none; LEVEL_SETS],
         },
     }
 }
 
 // Solves the plan with this head and these nodes: the count and the least acceptable solution, or refusal 14 where the
 // allowance is too small.
-pub(crate) fn settle(head: Head, nodes: [Slot; 256], allowance: u16) -> Solved
+pub(crate) fn settle(head: Head, nodes: [Slot; MOST_NODES], allowance: u16) -> Solved
     requires { ⌜ Spelled head nodes ⌝ }
     ensures { λ r. ⌜ Settles head nodes allowance r ⌝ }
 {

@@ -1,13 +1,14 @@
 // The walk of a round over the nodes in prefix order: a node and then its branches, with the depth that is left falling.
-ghost use Rattle.solving.specs.Walk.{Ready, Walked};
+ghost use Rattle.solving.specs.inner.Walk.{Ready, Walked};
 use crate::clauses::clause;
 use crate::table::Table;
+use limits::MOST_NODES;
 use reading::Slot;
 
 // Walks the tree whose root stands at `at`, adds what it wants, and says where it ends.
 pub(crate) fn walk_node(
     depth: usize,
-    nodes: [Slot; 256],
+    nodes: [Slot; MOST_NODES],
     at: usize,
     level: u8,
     live: bool,
@@ -35,7 +36,7 @@ pub(crate) fn walk_node(
 // Walks a node's branches, none, one or two: the first at `at`, the second where the first ends.
 fn walk_branches(
     depth: usize,
-    nodes: [Slot; 256],
+    nodes: [Slot; MOST_NODES],
     at: usize,
     level: u8,
     live: bool,

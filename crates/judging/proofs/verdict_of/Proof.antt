@@ -2,13 +2,15 @@
 -- breach; where all places are passed the sets are discreet. The measure is the places left. Assumes nothing.
 use Prim.Native.Nat.{ℕ, _-_, _≤_, _<_}
 use borrow.Author.Count.{below-more}
+use borrow.Author.Tests.{not-true, not-false}
 use borrow.Author.Needs.{needs}
-use native.Mathlib.Nat.{pos-of-ne-zero}
 use native.Mathlib.Omega.{arith}
-use Rattle.sets.proofs.Minimum.{empty-zero, members-none}
+use Rattle.limits.specs.Limits.{mostChannels, levels}
+use Rattle.limits.proofs.Places.{place-below}
+use Rattle.sets.proofs.Minimum.{members-none}
 use Rattle.judging.specs.Verdict.{Lower}
-use Rattle.judging.specs.Compute.{places}
-use Rattle.judging.proofs.Places.{GoesDown, Quiet, quiet-discreet, least-first}
+use Rattle.judging.specs.inner.Compute.{places}
+use Rattle.judging.proofs.Places.{Quiet, down-at, higher-fits, lower-fits, channel-fits, quiet-discreet, least-first}
 use Rattle.judging.proofs.Verdicts.{discreet-yes, breach-no}
 use Rattle.judging.proofs.verdict_of.Statement.{statement}
 use Rattle.judging.proofs.verdict_of.Tie as tie
@@ -22,35 +24,44 @@ abbrev μ-loop : tie.MeasureT-loop
 loop-holds : tie.Need-loop-holds Inv-loop μ-loop
 loop-holds c = (omega arith, λ j l. absurd (omega arith))
 
-mul-sent : tie.Need-mul-sent Inv-loop μ-loop
-mul-sent c = omega arith
+slice-aggregate-at : tie.Need-slice-aggregate-at Inv-loop μ-loop
+slice-aggregate-at c = search needs
 
-add-sent : tie.Need-add-sent Inv-loop μ-loop
-add-sent c = omega arith
+mul-at : tie.Need-mul-at Inv-loop μ-loop
+mul-at c = omega arith
 
-mul-sent-2 : tie.Need-mul-sent-2 Inv-loop μ-loop
-mul-sent-2 c = omega arith
+add-at : tie.Need-add-at Inv-loop μ-loop
+add-at c = omega arith
 
-array-read-sent : tie.Need-array-read-sent Inv-loop μ-loop
-array-read-sent c = omega arith
+at-requires : tie.Need-at-requires Inv-loop μ-loop
+at-requires c κs =
+    let at = c .before .before .loop in
+    let within = place-below mostChannels levels _ _ (higher-fits (at .place) (omega arith)) (channel-fits (at .place) (omega arith)) in
+    omega (arith, slice-aggregate-at c)
 
-mul-received : tie.Need-mul-received Inv-loop μ-loop
-mul-received c = omega arith
+slice-aggregate-at-2 : tie.Need-slice-aggregate-at-2 Inv-loop μ-loop
+slice-aggregate-at-2 c = search needs
 
-add-received : tie.Need-add-received Inv-loop μ-loop
-add-received c = omega arith
+mul-at-2 : tie.Need-mul-at-2 Inv-loop μ-loop
+mul-at-2 c = omega arith
 
-mul-received-2 : tie.Need-mul-received-2 Inv-loop μ-loop
-mul-received-2 c = omega arith
+add-at-2 : tie.Need-add-at-2 Inv-loop μ-loop
+add-at-2 c = omega arith
 
-array-read-received : tie.Need-array-read-received Inv-loop μ-loop
-array-read-received c = omega arith
+at-requires-2 : tie.Need-at-requires-2 Inv-loop μ-loop
+at-requires-2 c κs =
+    let at = c .before .before .before .before .loop in
+    let within = place-below mostChannels levels _ _ (lower-fits (at .place) (omega arith)) (channel-fits (at .place) (omega arith)) in
+    omega (arith, slice-aggregate-at-2 c)
 
 going-down-requires : tie.Need-going-down-requires Inv-loop μ-loop
 going-down-requires c κs = search needs
 
+is-empty-requires : tie.Need-is-empty-requires Inv-loop μ-loop
+is-empty-requires c κs = search needs
+
 least-requires : tie.Need-least-requires Inv-loop μ-loop
-least-requires c κs = pos-of-ne-zero (c .if1 .taken)
+least-requires c κs = c .before .is-empty .ensures .no (not-true _ (c .if1 .taken))
 
 cast-t22 : tie.Need-cast-t22 Inv-loop μ-loop
 cast-t22 c = omega arith
@@ -66,12 +77,13 @@ cast-t25 c = omega arith
 
 returns : tie.Need-returns Inv-loop μ-loop
 returns c =
-    let called = c .before .before in
-    let a = called .before .before .before .before .before .args in
-    let at = called .before .before .loop in
-    let n = at .place in
-    let o = c .least .result in
-    breach-no _ (least-first (Lower (a .top)) (a .solution) n o _ (omega arith) (at .inv .1) (called .going-down .ensures) (c .least .ensures .0))
+    let called = c .before .before .before in
+    let received = called .before in
+    let sent = received .before .before in
+    let at = sent .before .before .before .loop in
+    let a = sent .before .before .before .before .before .before .args in
+    let down = down-at (Lower (a .top)) (a .solution .outs) (a .solution .ins) (at .place) (sent .at .ensures .0) (received .at2 .ensures .0) (called .going-down .ensures) in
+    breach-no _ (least-first (Lower (a .top)) (a .solution) (at .place) (c .least .result) _ (omega arith) (at .inv .1) down (c .least .ensures .0))
 
 add-place : tie.Need-add-place Inv-loop μ-loop
 add-place c = omega arith
@@ -81,12 +93,14 @@ loop-less c = omega arith
 
 loop-again : tie.Need-loop-again Inv-loop μ-loop
 loop-again c =
-    let called = c .before in
-    let a = called .before .before .before .before .before .args in
-    let at = called .before .before .loop in
-    let down = GoesDown (Lower (a .top)) (a .solution .outs) (a .solution .ins) (at .place) in
-    let handles = called .going-down in
-    (omega arith, below-more _ _ (at .inv .1) (members-none (handles .result) down (handles .ensures) (empty-zero (handles .result) .1 (c .if1 .left))))
+    let called = c .before .before in
+    let received = called .before in
+    let sent = received .before .before in
+    let at = sent .before .before .before .loop in
+    let a = sent .before .before .before .before .before .before .args in
+    let down = down-at (Lower (a .top)) (a .solution .outs) (a .solution .ins) (at .place) (sent .at .ensures .0) (received .at2 .ensures .0) (called .going-down .ensures) in
+    let quiet = members-none (called .going-down .result) _ down (c .before .is-empty .ensures .yes (not-false _ (c .if1 .left))) in
+    (omega arith, below-more _ _ (at .inv .1) quiet)
 
 returns-2 : tie.Need-returns-2 Inv-loop μ-loop
 returns-2 c =
@@ -101,15 +115,16 @@ verdict-of-spec =
     Inv-loop
     μ-loop
     loop-holds
-    mul-sent
-    add-sent
-    mul-sent-2
-    array-read-sent
-    mul-received
-    add-received
-    mul-received-2
-    array-read-received
+    slice-aggregate-at
+    mul-at
+    add-at
+    at-requires
+    slice-aggregate-at-2
+    mul-at-2
+    add-at-2
+    at-requires-2
     going-down-requires
+    is-empty-requires
     least-requires
     cast-t22
     cast-t23

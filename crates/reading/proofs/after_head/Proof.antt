@@ -4,7 +4,7 @@ use native.Mathlib.Omega.{arith}
 use borrow.Author.Needs.{needs}
 use borrow.Author.Tests.{not-true, not-false}
 use Rattle.reading.specs.Plan.{readingOf, refused}
-use Rattle.reading.specs.Working.{Stands}
+use Rattle.reading.specs.inner.Working.{StandsIn}
 use Rattle.reading.proofs.Whole.{after-names, names-stand, after-tree, after-more, after-all}
 use Rattle.reading.proofs.after_head.Statement.{statement}
 use Rattle.reading.proofs.after_head.Tie as tie
@@ -21,7 +21,7 @@ read-names-requires c κs =
     let fresh = c .fresh-names .ensures in
     let none = fresh .none in
     let room = begun .pre .0 .names in
-    (subst (Stands (begun .args .text .now)) (sym (fresh .there)) (begun .pre .1), omega arith, fresh .good)
+    (subst (StandsIn (begun .args .text .now)) (sym (fresh .there)) (begun .pre .1), omega arith, fresh .good)
 
 refused-requires : tie.Need-refused-requires
 refused-requires c κs = search needs
@@ -33,7 +33,9 @@ returns c =
     let s = begun .args .text .now in
     let h = begun .args .head in
     let cursor = begun .args .cursor in
-    c .refused .ensures ∙ ap readingOf (after-names s h cursor (begun .pre .0) _ _ (named .before .fresh-names .ensures) (named .read-names .ensures) (not-true _ (c .before .if1 .taken)))
+    let fresh = named .before .fresh-names .ensures in
+    let law = after-names s h cursor (begun .pre .0) _ _ fresh (named .read-names .ensures) (not-true _ (c .before .if1 .taken)) in
+    c .refused .ensures ∙ ap readingOf law
 
 fresh-state-requires : tie.Need-fresh-state-requires
 fresh-state-requires c κs = search needs
@@ -45,7 +47,9 @@ read-node-requires c κs =
     let s = begun .args .text .now in
     let h = begun .args .head in
     let cursor = begun .args .cursor in
-    subst (Stands s) (sym (c .fresh-state .ensures .there)) (names-stand s h cursor (begun .pre .0) _ _ (named .before .fresh-names .ensures) (named .read-names .ensures) (not-false _ (c .before .before .if1 .left)))
+    let fresh = named .before .fresh-names .ensures in
+    let good = not-false _ (c .before .before .if1 .left) in
+    subst (StandsIn s) (sym (c .fresh-state .ensures .there)) (names-stand s h cursor (begun .pre .0) _ _ fresh (named .read-names .ensures) good)
 
 refused-requires-2 : tie.Need-refused-requires-2
 refused-requires-2 c κs = search needs

@@ -17,7 +17,9 @@ refused-requires : tie.Need-refused-requires
 refused-requires c κs = search needs
 
 returns : tie.Need-returns
-returns c = c .refused .ensures ∙ ap readingOf (ap refused (c .before .refuse .ensures) ∙ text-wrong _ (sym (c .before .before .before .wrong-length .ensures) ∙ c .before .before .if1 .taken))
+returns c =
+    let wrong = sym (c .before .before .before .wrong-length .ensures) ∙ c .before .before .if1 .taken in
+    c .refused .ensures ∙ ap readingOf (ap refused (c .before .refuse .ensures) ∙ text-wrong _ wrong)
 
 first-head-requires : tie.Need-first-head-requires
 first-head-requires c κs = search needs
@@ -40,7 +42,7 @@ past-requires c κs =
     let begun = opened .before .before .before .before in
     let right = sym (opened .before .before .wrong-length .ensures) ∙ opened .before .if1 .left in
     let head = text-head (begun .args .text .now) right _ (opened .first-head .ensures) _ (c .before .head .given .1) in
-    (record { short = text-short (begun .args .text .now) right; within = omega arith; few = omega arith }, head .1)
+    (record { short = text-short (begun .args .text .now) right; within = omega arith; few = omega arith }, head .1 .ended)
 
 after-head-requires : tie.Need-after-head-requires
 after-head-requires c κs =
@@ -63,7 +65,8 @@ returns-3 c =
     let opened = c .before .before .before .before .before in
     let begun = opened .before .before .before .before in
     let right = sym (opened .before .before .wrong-length .ensures) ∙ opened .before .if1 .left in
-    let law = text-read (begun .args .text .now) right _ (opened .first-head .ensures) _ (c .before .before .before .head .given .1) _ (c .before .past .ensures .0) in
+    let found = c .before .before .before .head .given .1 in
+    let law = text-read (begun .args .text .now) right _ (opened .first-head .ensures) _ found _ (c .before .past .ensures .0) in
     c .after-head .ensures ∙ ap readingOf law
 
 pub read-spec : {M : Type 1} → statement M

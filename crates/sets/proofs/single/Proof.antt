@@ -5,6 +5,7 @@ use Prim.Native.Nat.{ℕ}
 use borrow.Author.Needs.{needs}
 use Rattle.sets.specs.Set.{Members}
 use Rattle.sets.proofs.Members.{has-single}
+use Rattle.limits.specs.Limits.{mostChannels}
 use Rattle.sets.proofs.Width.{shift-one}
 use Rattle.sets.proofs.single.Statement.{statement}
 use Rattle.sets.proofs.single.Tie as tie
@@ -14,7 +15,7 @@ shl-result c = search needs
 
 returns : tie.Need-returns
 returns c =
-    subst⁻¹ (λ (s : ℕ). Members s (λ k. k ≡ c .args .channel)) (shift-one 32 (c .args .channel) (c .pre))
+    subst⁻¹ (λ (s : ℕ). Members s (λ k. k ≡ c .args .channel)) (shift-one mostChannels (c .args .channel) (c .pre))
     (record { has = has-single (c .args .channel) })
 
 pub single-spec : {M : Type 1} → statement M

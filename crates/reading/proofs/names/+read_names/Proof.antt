@@ -2,7 +2,7 @@
 use mathlib.Core.Path.{refl}
 use native.Mathlib.Omega.{arith}
 use borrow.Author.Needs.{needs}
-use Rattle.reading.proofs.Naming.{names-none, names-refused, name-whole, names-on}
+use Rattle.reading.proofs.Naming.{names-none, names-refused, name-there, names-on}
 use Prim.Native.Nat.{ℕ, _<_}
 use borrow.Fn.Kinds.{In}
 use borrow.Fn.PlainCycle.{Measures, is, falls, and}
@@ -11,9 +11,9 @@ use Rattle.reading.proofs.names.read_names.Kinds as read-names-kinds
 use Rattle.reading.proofs.names.+read_names.Lts-read_names as read-names-lts
 use Rattle.reading.proofs.cursor.past.Reads as past-reads
 use Rattle.reading.proofs.cursor.refuse.Reads as refuse-reads
-use Rattle.reading.proofs.names.next_name.Reads as next-name-reads
+use Rattle.lines.proofs.next_name.Reads as next-name-reads
 use Rattle.reading.proofs.names.refused.Reads as refused-reads
-use Rattle.reading.proofs.scope.give.Reads as give-reads
+use Rattle.lines.proofs.scope.give.Reads as give-reads
 use Rattle.reading.proofs.names.+read_names.{statement}
 use Rattle.reading.proofs.names.+read_names.Tie.{close}
 
@@ -75,8 +75,8 @@ read-names-past-requires t c κs =
     let more = said .before .before .if1 .left in
     let found = c .before .before .before .free .given .1 in
     let st = start .args .state in
-    let whole = name-whole (start .args .text .now) (start .args .head) (start .args .many) (start .args .least) st st more _ (said .next-name .ensures) _ found in
-    (start .pre .1 .0, whole .1)
+    let whole = name-there (start .args .text .now) (start .args .head) (start .args .many) (start .args .least) st st more _ (said .next-name .ensures) _ found in
+    (start .pre .1 .0, whole .ended)
 
 read-names-mul-free : (t : ℕ) → read-names-lts.Need-mul-free (read-names-calls t) (read-names-at t) read-names.Post
 read-names-mul-free t c = omega arith

@@ -3,9 +3,11 @@
 use mathlib.Core.Path.{refl}
 use native.Mathlib.Omega.{arith}
 use Rattle.reading.specs.Plan.{readTree}
-use Rattle.reading.specs.Working.{meaningIn, placeAt}
+use Rattle.lines.specs.Values.{meaningIn}
+use Rattle.lines.specs.Promise.{NodeFits}
+use Rattle.reading.specs.inner.Working.{placeAt}
 use borrow.Author.Needs.{needs}
-use Rattle.reading.proofs.Growing.{Found, grows-stands, branches-none, branches-one, branches-stop, branches-on, node-refused, node-found, node-grown}
+use Rattle.reading.proofs.Growing.{grows-stands, branches-none, branches-one, branches-stop, branches-on, node-refused, node-found, node-grown}
 use Prim.Native.Nat.{ℕ, _+_, _*_, _<_}
 use borrow.Fn.Kinds.{In}
 use borrow.Fn.PlainCycle.{Measures, is, falls, and}
@@ -17,9 +19,9 @@ use Rattle.reading.proofs.tree.read_node.Kinds as read-node-kinds
 use Rattle.reading.proofs.tree.+read_branches+read_node.Lts-read_node as read-node-lts
 use Rattle.reading.proofs.cursor.past.Reads as past-reads
 use Rattle.reading.proofs.cursor.refuse.Reads as refuse-reads
-use Rattle.reading.proofs.scope.enter.Reads as enter-reads
+use Rattle.lines.proofs.scope.enter.Reads as enter-reads
 use Rattle.reading.proofs.tree.branches_of.Reads as branches-of-reads
-use Rattle.reading.proofs.tree.next_node.Reads as next-node-reads
+use Rattle.lines.proofs.next_node.Reads as next-node-reads
 use Rattle.reading.proofs.tree.refused.Reads as refused-reads
 use Rattle.reading.proofs.tree.+read_branches+read_node.{statement}
 use Rattle.reading.proofs.tree.+read_branches+read_node.Tie.{close}
@@ -118,7 +120,7 @@ read-branches-returns-4 t c =
 -- a node was found: its line is whole, and there was room and depth for it
 room-for : (t : ℕ) (told : read-node-lts.After-known-told2 (read-node-calls t) (read-node-at t) read-node.Post)
     → let start = told .before .before .before .before .before .before in
-    Found (start .args .text .now) (start .args .state .cursor .at) (start .args .depth) (start .args .state .count)
+    NodeFits (start .args .text .now) (start .args .state .cursor .at) (start .args .depth) (start .args .state .count)
 room-for t told =
     let start = told .before .before .before .before .before .before in
     let said = told .before .before .before .next-node .ensures in
@@ -141,7 +143,7 @@ read-node-enum-known-node : (t : ℕ) → read-node-lts.Need-enum-known-node (re
 read-node-enum-known-node t c = search needs
 
 read-node-past-requires : (t : ℕ) → read-node-lts.Need-past-requires (read-node-calls t) (read-node-at t) read-node.Post
-read-node-past-requires t c κs = (c .before .before .before .before .before .before .pre .1, room-for t c .inside)
+read-node-past-requires t c κs = (c .before .before .before .before .before .before .pre .1, room-for t c .whole .ended)
 
 read-node-mul-t16 : (t : ℕ) → read-node-lts.Need-mul-t16 (read-node-calls t) (read-node-at t) read-node.Post
 read-node-mul-t16 t c = omega (arith, room-for t (c .before) .room)

@@ -7,6 +7,7 @@ use lib.ListN.{length, getD, length-set}
 use Rattle.sets.specs.Set.{Has, Subset}
 use Rattle.sets.specs.Rows.{Joins, Over, From}
 use Rattle.sets.proofs.Members.{members-own}
+use Rattle.sets.proofs.Minimum.{not-empty}
 use Rattle.sets.proofs.Taking.{Taken, taken-none, taken-all, taken-more, left-subset, over-none, over-more, over-same}
 use Rattle.sets.proofs.rows.merge.Statement.{statement}
 use Rattle.sets.proofs.rows.merge.Tie as tie
@@ -25,7 +26,7 @@ loop-holds c =
     ((λ k h. h), omega arith, none)
 
 least-requires : tie.Need-least-requires Inv-loop μ-loop
-least-requires c κs = omega arith
+least-requires c κs = not-empty _ (omega arith)
 
 cast-i : tie.Need-cast-i Inv-loop μ-loop
 cast-i c = omega arith

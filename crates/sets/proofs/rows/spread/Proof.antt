@@ -6,6 +6,7 @@ use lib.ListN.{length, length-set}
 use Rattle.sets.specs.Set.{Has, Subset}
 use Rattle.sets.specs.Rows.{Joins, Over}
 use Rattle.sets.proofs.Members.{members-own}
+use Rattle.sets.proofs.Minimum.{not-empty}
 use Rattle.sets.proofs.Taking.{Taken, taken-none, taken-all, taken-more, left-subset, over-none, over-more, over-same}
 use Rattle.sets.proofs.rows.spread.Statement.{statement}
 use Rattle.sets.proofs.rows.spread.Tie as tie
@@ -23,7 +24,7 @@ loop-holds c =
     ((λ k h. h), omega arith, over-none {P = Taken (a .channels) (a .channels)} (λ k. Has (a .set)) (a .row .now) (a .base) (taken-none (a .channels)))
 
 least-requires : tie.Need-least-requires Inv-loop μ-loop
-least-requires c κs = omega arith
+least-requires c κs = not-empty _ (omega arith)
 
 cast-at : tie.Need-cast-at Inv-loop μ-loop
 cast-at c = omega arith

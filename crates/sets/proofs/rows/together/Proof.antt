@@ -3,6 +3,7 @@
 use native.Mathlib.Omega.{arith}
 use Rattle.sets.specs.Set.{Has, Members, Subset}
 use Rattle.sets.specs.Rows.{Together}
+use Rattle.sets.proofs.Minimum.{not-empty}
 use Rattle.sets.proofs.Taking.{Taken, taken-none, taken-all, taken-more, left-subset, together-none, together-more, together-same}
 use Rattle.sets.proofs.rows.together.Statement.{statement}
 use Rattle.sets.proofs.rows.together.Tie as tie
@@ -19,7 +20,7 @@ loop-holds c =
     ((λ k h. h), together-none {P = Taken (a .channels) (a .channels)} (a .from .now) (a .start) (taken-none (a .channels)))
 
 least-requires : tie.Need-least-requires Inv-loop μ-loop
-least-requires c κs = omega arith
+least-requires c κs = not-empty _ (omega arith)
 
 cast-all : tie.Need-cast-all Inv-loop μ-loop
 cast-all c = omega arith

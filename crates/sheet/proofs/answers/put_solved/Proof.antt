@@ -2,7 +2,7 @@
 use mathlib.Core.Path.{subst}
 use mathlib.Core.List.{_++_}
 use Rattle.sheet.specs.Sheet.{countLine, solutionLines, hexLine, hexLines}
-use Rattle.sheet.specs.Working.{Room}
+use Rattle.sheet.specs.inner.Working.{Room}
 use Rattle.sheet.proofs.Putting.{room-first, room-then, put-then, put-same}
 use Rattle.sheet.proofs.Parts.{solved-parts}
 use borrow.Author.Needs.{needs}

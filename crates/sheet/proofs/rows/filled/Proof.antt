@@ -1,11 +1,15 @@
 -- `filled`: the count so far, with what is still to be counted, is the whole. Assumes nothing.
 use Prim.Native.Nat.{_+_, _-_, _≤_}
-use mathlib.Core.Path.{_≡_}
+use mathlib.Core.Path.{_≡_, subst, _∙_}
 use mathlib.Core.Logic.{⊎-elim}
 use native.Mathlib.Omega.{arith}
 use borrow.Author.Needs.{needs}
+use borrow.Author.Tests.{not-true, not-false}
 use lib.ListN.{length, drop}
-use Rattle.sheet.specs.Working.{filledIn}
+use Rattle.sets.specs.Set.{Empty, Decides}
+use Rattle.sets.specs.Rows.{setAt}
+use Rattle.sets.proofs.Minimum.{none-told}
+use Rattle.sheet.specs.inner.Working.{filledIn}
 use Rattle.sheet.proofs.Filling.{filled-empty, filled-more, filled-end}
 use Rattle.sheet.proofs.rows.filled.Statement.{statement}
 use Rattle.sheet.proofs.rows.filled.Tie as tie
@@ -19,11 +23,11 @@ abbrev μ-loop : tie.MeasureT-loop
 loop-holds : tie.Need-loop-holds Inv-loop μ-loop
 loop-holds c = omega arith
 
-mul-if1 : tie.Need-mul-if1 Inv-loop μ-loop
-mul-if1 c = search needs
+at-requires : tie.Need-at-requires Inv-loop μ-loop
+at-requires c κs = omega arith
 
-shared-slice-read-if1 : tie.Need-shared-slice-read-if1 Inv-loop μ-loop
-shared-slice-read-if1 c = omega arith
+is-empty-requires : tie.Need-is-empty-requires Inv-loop μ-loop
+is-empty-requires c κs = search needs
 
 add-count : tie.Need-add-count Inv-loop μ-loop
 add-count c = omega arith
@@ -36,16 +40,20 @@ loop-less c = omega arith
 
 loop-again : tie.Need-loop-again Inv-loop μ-loop
 loop-again c =
-    let begun = c .before .before .before in
-    let row = begun .before .args .row .now in
-    let here = c .before .before .loop-test .taken in
+    let tested = c .before in
+    let found = tested .before in
+    let begun = found .before .before in
+    let row = begun .before .before .args .row .now in
+    let here = found .before .loop-test .taken in
+    let decides = subst (λ s. Decides (tested .is-empty .result) (Empty s)) (found .at .ensures .0) (tested .is-empty .ensures) in
+    let told = none-told (tested .is-empty .result) (setAt row (begun .loop .i)) decides in
     ⊎-elim
-    (λ w. omega (arith, filled-more row (begun .loop .i) here (w .0 .taken)))
-    (λ w. omega (arith, filled-empty row (begun .loop .i) here (w .0 .left)))
+    (λ w. omega (arith, filled-more row (begun .loop .i) here (told ∙ not-true _ (w .0 .taken))))
+    (λ w. omega (arith, filled-empty row (begun .loop .i) here (told ∙ not-false _ (w .0 .left))))
     (c .if1 .came)
 
 returns : tie.Need-returns Inv-loop μ-loop
-returns c = omega (arith, filled-end (c .before .before .args .row .now) (c .before .loop .i) (c .loop-test .left))
+returns c = omega (arith, filled-end (c .before .before .before .args .row .now) (c .before .loop .i) (c .loop-test .left))
 
 pub filled-spec : {M : Type 1} → statement M
 filled-spec =
@@ -54,8 +62,8 @@ filled-spec =
     Inv-loop
     μ-loop
     loop-holds
-    mul-if1
-    shared-slice-read-if1
+    at-requires
+    is-empty-requires
     add-count
     add-i
     loop-less

@@ -1,52 +1,67 @@
 -- `put_set`: an empty set has no line; any other has the line that its row's name makes. Assumes nothing.
-use mathlib.Core.Path.{_≡_, ap, subst, _∙_}
-use mathlib.Core.List.{List, _++_}
+use mathlib.Core.Path.{_≡_, ap, sym, subst, _∙_}
+use mathlib.Core.List.{List, [], _∷_, _++_}
 use borrow.Author.Needs.{needs}
 use Prim.Native.Nat.{ℕ}
-use Rattle.sheet.specs.declared.rows.Row.{Row}
-use Rattle.sheet.specs.declared.rows.Row.the-variants.{Binders, Ins, Outs}
-use Rattle.sheet.specs.Sheet.{setBytes, hexLine}
-use Rattle.sheet.specs.Working.{Room, Put, nameIn, setText}
+use lib.ListN.{getD}
+use Rattle.sheet.specs.declared.rows.Part.{Part}
+use Rattle.sheet.specs.declared.rows.Part.the-variants.{Binders, Ins, Outs}
+use Rattle.sets.specs.Set.{setBytes}
+use Rattle.sets.proofs.Minimum.{none-told}
+use Rattle.sheet.specs.Sheet.{hexLine}
+use Rattle.sheet.specs.inner.Working.{Room, Put, partName, setText}
 use Rattle.sheet.proofs.Putting.{put-none, put-same}
 use Rattle.sheet.proofs.Filling.{set-line, set-none}
 use Rattle.sheet.proofs.rows.put_set.Statement.{statement}
 use Rattle.sheet.proofs.rows.put_set.Tie as tie
 
--- in a row of a known kind, a set that is not empty
-module _ (c : tie.Else1) (kind : Row) (e : c .before .before .args .row ≡ kind) where
+-- the line of a set that is not empty, in a part that is known, from the bytes that stand for the set
+module _ (c : tie.After-bytes) (part : Part) (e : c .before .before .before .before .args .part ≡ part) where
+  name : List ℕ
+  name = partName part (c .before .before .before .before .args .place)
+
   line : List ℕ
-  line = hexLine (nameIn kind (c .before .before .args .place) ++ setBytes (c .before .before .args .set))
+  line = let b = c .bytes .result in hexLine (name ++ (getD b 0 0 ∷ getD b 1 0 ∷ getD b 2 0 ∷ getD b 3 0 ∷ []))
 
-  text-is : setText (c .before .before .args .row) (c .before .before .args .place) (c .before .before .args .set) ≡ line
-  unfolding line
+  text-is : setText (c .before .before .before .before .args .part) (c .before .before .before .before .args .place) (c .before .before .before .before .args .set) ≡ line
+  unfolding line name
   text-is =
-      let a = c .before .before .args in
-      set-line (nameIn (a .row) (a .place)) (a .set) (c .if1 .left) ∙ ap (λ r. hexLine (nameIn r (a .place) ++ setBytes (a .set))) e
+      let a = c .before .before .before .before .args in
+      let filled = none-told _ (a .set) (c .before .before .is-empty .ensures) ∙ c .before .if1 .left in
+      set-line (partName (a .part) (a .place)) (a .set) filled ∙ ap (λ p. hexLine (partName p (a .place) ++ setBytes (a .set))) e
+      ∙ ap (λ b. hexLine (partName part (a .place) ++ (getD b 0 0 ∷ getD b 1 0 ∷ getD b 2 0 ∷ getD b 3 0 ∷ []))) (sym (c .bytes .ensures))
 
-  room-is : Room (c .before .before .args .buffer .now) (c .before .before .args .at) line
-  room-is = subst (Room _ _) text-is (c .before .before .pre .1)
+  room-is : Room (c .before .before .before .before .args .buffer .now) (c .before .before .before .before .args .at) line
+  room-is = subst (Room _ _) text-is (c .before .before .before .before .pre .1)
 
-  put-is : {after : List ℕ} {next : ℕ} → Put (c .before .before .args .buffer .now) (c .before .before .args .at) line after next
-      → Put (c .before .before .args .buffer .now) (c .before .before .args .at)
-      (setText (c .before .before .args .row) (c .before .before .args .place) (c .before .before .args .set)) after next
+  put-is : {after : List ℕ} {next : ℕ} → Put (c .before .before .before .before .args .buffer .now) (c .before .before .before .before .args .at) line after next
+      → Put (c .before .before .before .before .args .buffer .now) (c .before .before .before .before .args .at)
+      (setText (c .before .before .before .before .args .part) (c .before .before .before .before .args .place) (c .before .before .before .before .args .set)) after next
   put-is p = put-same text-is p
+
+is-empty-requires : tie.Need-is-empty-requires
+is-empty-requires c κs = search needs
 
 returns : tie.Need-returns
 returns c =
-    let a = c .before .before .args in
-    put-same (set-none (nameIn (a .row) (a .place)) (a .set) (c .if1 .taken)) (put-none _ _)
+    let a = c .before .before .before .args in
+    let none = none-told _ (a .set) (c .before .is-empty .ensures) ∙ c .if1 .taken in
+    put-same (set-none (partName (a .part) (a .place)) (a .set) none) (put-none _ _)
 
-cast-first : tie.Need-cast-first
-cast-first c = search needs
+bytes-requires : tie.Need-bytes-requires
+bytes-requires c κs = search needs
 
-cast-second : tie.Need-cast-second
-cast-second c = search needs
+array-read-first : tie.Need-array-read-first
+array-read-first c = search needs
 
-cast-third : tie.Need-cast-third
-cast-third c = search needs
+array-read-second : tie.Need-array-read-second
+array-read-second c = search needs
 
-cast-fourth : tie.Need-cast-fourth
-cast-fourth c = search needs
+array-read-third : tie.Need-array-read-third
+array-read-third c = search needs
+
+array-read-fourth : tie.Need-array-read-fourth
+array-read-fourth c = search needs
 
 cast-level : tie.Need-cast-level
 cast-level c = search needs
@@ -57,14 +72,14 @@ cast-channel c = search needs
 enum-told : tie.Need-enum-told
 enum-told c = search needs
 
-cast-t20 : tie.Need-cast-t20
-cast-t20 c = search needs
+cast-t29 : tie.Need-cast-t29
+cast-t29 c = search needs
 
 slice-aggregate-put-line : tie.Need-slice-aggregate-put-line
 slice-aggregate-put-line c = search needs
 
 put-line-requires : tie.Need-put-line-requires
-unfolding line
+unfolding line name
 put-line-requires c κs = let told = c .before .before in room-is (told .before .before) Binders (told .enum-told .given .1)
 
 enum-told-2 : tie.Need-enum-told-2
@@ -74,7 +89,7 @@ slice-aggregate-put-line-2 : tie.Need-slice-aggregate-put-line-2
 slice-aggregate-put-line-2 c = search needs
 
 put-line-requires-2 : tie.Need-put-line-requires-2
-unfolding line
+unfolding line name
 put-line-requires-2 c κs = let told = c .before .before in room-is (told .before .before) Ins (told .enum-told2 .given .1)
 
 enum-told-3 : tie.Need-enum-told-3
@@ -84,14 +99,14 @@ slice-aggregate-put-line-3 : tie.Need-slice-aggregate-put-line-3
 slice-aggregate-put-line-3 c = search needs
 
 put-line-requires-3 : tie.Need-put-line-requires-3
-unfolding line
+unfolding line name
 put-line-requires-3 c κs = let told = c .before .before in room-is (told .before .before) Outs (told .enum-told3 .given .1)
 
 same-length : tie.Need-same-length
 same-length c = search needs
 
 returns-2 : tie.Need-returns-2
-unfolding line
+unfolding line name
 returns-2 c =
     let told = c .before .before .before .before .before in
     put-is (told .before .before) Binders (told .enum-told .given .1) (c .before .before .put-line .ensures)
@@ -100,7 +115,7 @@ same-length-2 : tie.Need-same-length-2
 same-length-2 c = search needs
 
 returns-3 : tie.Need-returns-3
-unfolding line
+unfolding line name
 returns-3 c =
     let told = c .before .before .before .before .before in
     put-is (told .before .before) Ins (told .enum-told2 .given .1) (c .before .before .put-line2 .ensures)
@@ -109,7 +124,7 @@ same-length-3 : tie.Need-same-length-3
 same-length-3 c = search needs
 
 returns-4 : tie.Need-returns-4
-unfolding line
+unfolding line name
 returns-4 c =
     let told = c .before .before .before .before .before in
     put-is (told .before .before) Outs (told .enum-told3 .given .1) (c .before .before .put-line3 .ensures)
@@ -118,15 +133,17 @@ pub put-set-spec : {M : Type 1} → statement M
 put-set-spec =
     tie.close
     (tie.spec
+    is-empty-requires
     returns
-    cast-first
-    cast-second
-    cast-third
-    cast-fourth
+    bytes-requires
+    array-read-first
+    array-read-second
+    array-read-third
+    array-read-fourth
     cast-level
     cast-channel
     enum-told
-    cast-t20
+    cast-t29
     slice-aggregate-put-line
     put-line-requires
     enum-told-2

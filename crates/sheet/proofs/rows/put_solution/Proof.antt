@@ -4,9 +4,10 @@ use mathlib.Core.List.{_++_}
 use native.Mathlib.Omega.{arith}
 use borrow.Author.Needs.{needs}
 use lib.ListN.{length}
+use Rattle.limits.specs.Limits.{mostBinders, levelSets}
 use Rattle.solving.specs.declared.Solution.{Solution}
-use Rattle.sheet.specs.declared.rows.Row.the-variants.{Binders, Ins, Outs}
-use Rattle.sheet.specs.Working.{Room, rowText}
+use Rattle.sheet.specs.declared.rows.Part.the-variants.{Binders, Ins, Outs}
+use Rattle.sheet.specs.inner.Working.{Room, rowText}
 use Rattle.sheet.proofs.Putting.{room-first, room-then, put-then, put-same}
 use Rattle.sheet.proofs.Parts.{solution-parts}
 use Rattle.sheet.proofs.rows.put_solution.Statement.{statement}
@@ -23,7 +24,7 @@ slice-aggregate-put-row c = search needs
 put-row-requires : tie.Need-put-row-requires
 put-row-requires c κs =
     let start = c .before .before .before .before .before .before in
-    let size : 32 ≡ length (start .args .solution .binders) = slice-aggregate-put-row c in
+    let size : mostBinders ≡ length (start .args .solution .binders) = slice-aggregate-put-row c in
     (omega arith, room-first _ (all-rooms start))
 
 slice-aggregate-put-row-2 : tie.Need-slice-aggregate-put-row-2
@@ -33,7 +34,7 @@ put-row-requires-2 : tie.Need-put-row-requires-2
 put-row-requires-2 c κs =
     let first = c .before .before .before .before in
     let start = first .before .before .before .before .before .before .before in
-    let size : 256 ≡ length (start .args .solution .ins) = slice-aggregate-put-row-2 c in
+    let size : levelSets ≡ length (start .args .solution .ins) = slice-aggregate-put-row-2 c in
     (omega arith, room-first (rowText Outs (start .args .solution .outs)) (room-then (all-rooms start) (first .put-row .ensures)))
 
 slice-aggregate-put-row-3 : tie.Need-slice-aggregate-put-row-3
@@ -44,7 +45,7 @@ put-row-requires-3 c κs =
     let second = c .before .before .before .before in
     let first = second .before .before .before .before .before in
     let start = first .before .before .before .before .before .before .before in
-    let size : 256 ≡ length (start .args .solution .outs) = slice-aggregate-put-row-3 c in
+    let size : levelSets ≡ length (start .args .solution .outs) = slice-aggregate-put-row-3 c in
     (omega arith, room-then (room-then (all-rooms start) (first .put-row .ensures)) (second .put-row2 .ensures))
 
 same-length : tie.Need-same-length

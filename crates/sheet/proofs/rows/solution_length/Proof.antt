@@ -3,6 +3,7 @@ use Prim.Native.Nat.{_≤_}
 use mathlib.Core.Path.{_≡_}
 use native.Mathlib.Omega.{arith}
 use lib.ListN.{length}
+use Rattle.limits.specs.Limits.{mostBinders, levelSets}
 use Rattle.sheet.proofs.Filling.{filled-most}
 use Rattle.sheet.proofs.Parts.{solution-size}
 use borrow.Author.Needs.{needs}
@@ -22,16 +23,16 @@ filled-requires-2 : tie.Need-filled-requires-2
 filled-requires-2 c κs = search needs
 
 -- a row has no more sets that are not empty than sets
-few-ins : (c : tie.After-filled) → c .filled .result ≤ 256
+few-ins : (c : tie.After-filled) → c .filled .result ≤ levelSets
 few-ins c =
     let ins = c .before .before .before .before .before .args .solution .ins in
-    let size : 256 ≡ length ins = slice-aggregate-filled (c .before) in
+    let size : levelSets ≡ length ins = slice-aggregate-filled (c .before) in
     omega (arith, filled-most ins, c .filled .ensures)
 
-few-outs : (c : tie.After-filled2) → c .filled2 .result ≤ 256
+few-outs : (c : tie.After-filled2) → c .filled2 .result ≤ levelSets
 few-outs c =
     let outs = c .before .before .before .before .before .before .before .args .solution .outs in
-    let size : 256 ≡ length outs = slice-aggregate-filled-2 (c .before) in
+    let size : levelSets ≡ length outs = slice-aggregate-filled-2 (c .before) in
     omega (arith, filled-most outs, c .filled2 .ensures)
 
 add-levels : tie.Need-add-levels
@@ -43,14 +44,14 @@ slice-aggregate-filled-3 c = search needs
 filled-requires-3 : tie.Need-filled-requires-3
 filled-requires-3 c κs = search needs
 
-few-binders : (c : tie.After-filled3) → c .filled3 .result ≤ 32
+few-binders : (c : tie.After-filled3) → c .filled3 .result ≤ mostBinders
 few-binders c =
     let binders = c .before .before .before .before .before .before .before .before .before .args .solution .binders in
-    let size : 32 ≡ length binders = slice-aggregate-filled-3 (c .before) in
+    let size : mostBinders ≡ length binders = slice-aggregate-filled-3 (c .before) in
     omega (arith, filled-most binders, c .filled3 .ensures)
 
 few : (c : tie.After-filled3)
-    → (c .filled3 .result ≤ 32) × (c .before .before .filled2 .result ≤ 256) × (c .before .before .before .before .filled .result ≤ 256)
+    → (c .filled3 .result ≤ mostBinders) × (c .before .before .filled2 .result ≤ levelSets) × (c .before .before .before .before .filled .result ≤ levelSets)
 few c = (few-binders c, few-outs (c .before .before), few-ins (c .before .before .before .before))
 
 mul-result : tie.Need-mul-result

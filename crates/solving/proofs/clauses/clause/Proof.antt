@@ -1,6 +1,6 @@
 -- Each kind of node by its own function, or, where its clause has no condition and wants nothing itself, as it is.
 -- Assumes nothing.
-use Rattle.reading.specs.declared.Node.the-variants.{Nil, Silent, Sum, Parallel, Restriction, Replication}
+use Rattle.lines.specs.declared.Node.the-variants.{Nil, Silent, Sum, Parallel, Restriction, Replication}
 use Rattle.solving.proofs.Steps.{able-at, passes-at, stepped-at}
 use borrow.Author.Needs.{needs}
 use Rattle.solving.proofs.clauses.clause.Statement.{statement}

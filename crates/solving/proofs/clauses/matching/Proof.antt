@@ -1,7 +1,7 @@
 -- A match asks where the markers are the same, and otherwise where their sets meet; it adds nothing.
 -- Assumes nothing.
 use mathlib.Core.Logic.{inr}
-use Rattle.reading.specs.declared.Node.the-variants.{Match}
+use Rattle.lines.specs.declared.Node.the-variants.{Match}
 use Rattle.solving.proofs.Tables.{adds-none}
 use Rattle.solving.proofs.Steps.{marker-fits, asks, asks-if, not-live, meets-of, apart-of}
 use borrow.Author.Needs.{needs}
@@ -40,8 +40,8 @@ returns-2 c =
     let s = same .before .before in
     let a = s .args in
     asks-if (Match (a .x) (a .y)) (a .level) (a .live) (a .old .now) (a .new .now) (c .meets .result) (s .pre .lent .news) (same .before .if1 .taken)
-    (λ e. meets-of (a .old .now) (a .x) (a .y) (x .result) (y .result) (x .ensures) (y .ensures) (c .meets .ensures .yes e))
-    (λ e. apart-of (a .old .now) (a .x) (a .y) (x .result) (y .result) (x .ensures) (y .ensures) (c .meets .ensures .no e)
+    (λ e. meets-of (a .old .now) (a .x) (a .y) (x .result) (y .result) (x .ensures .0) (y .ensures .0) (c .meets .ensures .yes e))
+    (λ e. apart-of (a .old .now) (a .x) (a .y) (x .result) (y .result) (x .ensures .0) (y .ensures .0) (c .meets .ensures .no e)
     (same .same-marker .ensures .no (other .if2 .left)))
     (λ f w. w)
 

@@ -3,8 +3,7 @@
 -- Assumes nothing.
 use mathlib.Core.Path.{_∙_}
 use native.Mathlib.Omega.{arith}
-use lib.ListN.{length-set}
-use Rattle.reading.specs.declared.Node.the-variants.{Receive}
+use Rattle.lines.specs.declared.Node.the-variants.{Receive}
 use Rattle.solving.proofs.Steps.{marker-fits, binder-fits, able-level, asks, asks-not, not-live, sounding-heard, receive-adds}
 use borrow.Author.Needs.{needs}
 use Rattle.solving.proofs.clauses.receiving.Statement.{statement}
@@ -32,23 +31,17 @@ together-requires c κs =
     let l = able-level _ _ _ _ s in
     omega (arith, c .ins-at .ensures, s .lent .olds)
 
-mul-new : tie.Need-mul-new
-mul-new c = search needs
-
-element-copy-out-new : tie.Need-element-copy-out-new
-element-copy-out-new c = search needs
-
-mul-new-2 : tie.Need-mul-new-2
-mul-new-2 c = search needs
-
-element-write-new : tie.Need-element-write-new
-element-write-new c = search needs
+join-at-requires : tie.Need-join-at-requires
+join-at-requires c κs =
+    let s = c .before .before .before .before .before .before .before .before .before .before in
+    let b = binder-fits _ _ _ _ _ _ (s .pre) in
+    omega (arith, c .before .before .before .before .gather .ensures .1)
 
 returns : tie.Need-returns
 returns c =
-    let union = c .before .together in
-    let start = c .before .before .ins-at in
-    let gathered = c .before .before .before .before in
+    let union = c .before .before .together in
+    let start = c .before .before .before .ins-at in
+    let gathered = c .before .before .before .before .before in
     let second = gathered .before .before in
     let x = second .before .before .set-of in
     let first = second .before .before .before in
@@ -56,22 +49,20 @@ returns c =
     let a = s .args in
     let l = able-level _ _ _ _ (s .pre) in
     let b = binder-fits (a .x) (a .y) (a .binder) (a .level) (a .old .now) (a .new .now) (s .pre) in
-    let fits = x .ok in
-    asks (Receive (a .x) (a .y) (a .binder)) (a .level) (a .live) (a .old .now) (a .new .now) _
-    (length-set (gathered .gather .last .0) _ _ ∙ gathered .gather .ensures .1) (first .if1 .taken)
-    (sounding-heard (a .old .now) (a .x) (x .result) (omega arith) (x .ensures) .0 (second .before .heard .ensures .yes (second .if2 .taken)))
-    (receive-adds (a .old .now) (a .new .now) (gathered .gather .last .0) (a .x) (a .binder) (a .level) (x .result) (union .result)
-    (start .result) l b (omega (arith, gathered .gather .ensures .1)) (omega arith) (x .ensures)
-    (gathered .gather .ensures .0) (start .ensures) (union .ensures))
+    asks (Receive (a .x) (a .y) (a .binder)) (a .level) (a .live) (a .old .now) (a .new .now) (c .join-at .last .0)
+    (c .join-at .ensures .1 ∙ gathered .gather .ensures .1) (first .if1 .taken)
+    (sounding-heard (a .old .now) (a .x) (x .result) (x .ensures .1) (x .ensures .0) .0 (second .before .heard .ensures .yes (second .if2 .taken)))
+    (receive-adds (a .old .now) (a .new .now) (gathered .gather .last .0) (c .join-at .last .0) (a .x) (a .binder) (a .level) (x .result)
+    (union .result) (start .result) l b (x .ensures .1) (x .ensures .0)
+    (gathered .gather .ensures .0) (start .ensures) (union .ensures) (c .join-at .ensures .0))
 
 returns-2 : tie.Need-returns-2
 returns-2 c =
     let x = c .before .before .set-of in
     let s = c .before .before .before .before in
     let a = s .args in
-    let fits = x .ok in
     asks-not (Receive (a .x) (a .y) (a .binder)) (a .level) (a .live) (a .old .now) (a .new .now) (s .pre .lent .news)
-    (λ t w. c .before .heard .ensures .no (c .if2 .left) (sounding-heard (a .old .now) (a .x) (x .result) (omega arith) (x .ensures) .1 w))
+    (λ t w. c .before .heard .ensures .no (c .if2 .left) (sounding-heard (a .old .now) (a .x) (x .result) (x .ensures .1) (x .ensures .0) .1 w))
 
 returns-3 : tie.Need-returns-3
 returns-3 c =
@@ -88,10 +79,7 @@ receiving-spec =
     gather-requires
     ins-at-requires
     together-requires
-    mul-new
-    element-copy-out-new
-    mul-new-2
-    element-write-new
+    join-at-requires
     returns
     returns-2
     returns-3)

@@ -3,9 +3,9 @@
 use mathlib.Core.Path.{_∙_}
 use native.Mathlib.Omega.{arith}
 use Rattle.sets.proofs.Minimum.{members-none}
-use Rattle.reading.specs.declared.Node.the-variants.{Send}
+use Rattle.lines.specs.declared.Node.the-variants.{Send}
 use Rattle.solving.specs.Solutions.{SetOf}
-use Rattle.solving.specs.Table.{inTable}
+use Rattle.solving.specs.inner.Table.{inTable}
 use Rattle.solving.proofs.Steps.{marker-fits, able-level, asks, asks-not, not-live, send-asks, send-adds}
 use borrow.Author.Needs.{needs}
 use Rattle.solving.proofs.clauses.sending.Statement.{statement}
@@ -31,7 +31,7 @@ returns c =
     let x = c .before .before .before .set-of in
     let empty = c .before .is-empty .ensures .yes (c .if2 .taken) in
     asks-not (Send (a .x) (a .y)) (a .level) (a .live) (a .old .now) (a .new .now) (s .pre .lent .news)
-    (λ t w. members-none (x .result) (SetOf (inTable (a .old .now)) (a .x)) (x .ensures) empty (w .0 .0) (w .0 .1))
+    (λ t w. members-none (x .result) (SetOf (inTable (a .old .now)) (a .x)) (x .ensures .0) empty (w .0 .0) (w .0 .1))
 
 is-empty-requires-2 : tie.Need-is-empty-requires-2
 is-empty-requires-2 c κs = search needs
@@ -44,7 +44,7 @@ returns-2 c =
     let y = second .before .before .set-of2 in
     let empty = c .before .is-empty2 .ensures .yes (c .if3 .taken) in
     asks-not (Send (a .x) (a .y)) (a .level) (a .live) (a .old .now) (a .new .now) (s .pre .lent .news)
-    (λ t w. members-none (y .result) (SetOf (inTable (a .old .now)) (a .y)) (y .ensures) empty (w .1 .0) (w .1 .1))
+    (λ t w. members-none (y .result) (SetOf (inTable (a .old .now)) (a .y)) (y .ensures .0) empty (w .1 .0) (w .1 .1))
 
 outs-at-requires : tie.Need-outs-at-requires
 outs-at-requires c κs = able-level _ _ _ _ (c .before .before .before .before .before .before .before .before .pre)
@@ -69,9 +69,9 @@ returns-3 c =
     let base = c .before .outs-at in
     asks (Send (a .x) (a .y)) (a .level) (a .live) (a .old .now) (a .new .now) (c .spread .last .0) (c .spread .ensures .1 ∙ s .pre .lent .news)
     (first .if1 .taken)
-    (send-asks (a .old .now) (a .x) (a .y) (x .result) (y .result) (x .ensures) (y .ensures) some-x some-y)
+    (send-asks (a .old .now) (a .x) (a .y) (x .result) (y .result) (x .ensures .0) (y .ensures .0) some-x some-y)
     (send-adds (a .old .now) (a .new .now) (c .spread .last .0) (a .x) (a .y) (a .level) (x .result) (y .result) (base .result)
-    (able-level _ _ _ _ (s .pre)) (omega (arith, x .ok)) (x .ensures) (y .ensures) (base .ensures) (c .spread .ensures .0))
+    (able-level _ _ _ _ (s .pre)) (x .ensures .1) (x .ensures .0) (y .ensures .0) (base .ensures) (c .spread .ensures .0))
 
 returns-4 : tie.Need-returns-4
 returns-4 c =

@@ -1,7 +1,7 @@
 -- The walk of the one tree that stands at the root, which is live at the outermost level.
 -- Assumes nothing.
 use mathlib.Core.Bool.{true}
-use Rattle.solving.specs.Solutions.{outermost}
+use Rattle.limits.specs.Limits.{outermost}
 use Rattle.solving.proofs.Settling.{round-ready}
 use Rattle.solving.proofs.Walks.{whole-walked}
 use Rattle.solving.proofs.rounds.round.Statement.{statement}

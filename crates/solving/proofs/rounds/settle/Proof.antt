@@ -1,14 +1,16 @@
 -- After so many rounds the table holds what the definition's rounds give, and none of them was idle; the measure is what is
 -- left of the allowance.
 -- Assumes nothing.
-use Prim.Native.Nat.{ℕ, _-_, _≤_}
+use Prim.Native.Nat.{_-_, _≤_}
 use mathlib.Core.Path.{_≡_, refl, sym, subst, subst⁻¹, ap, _∙_}
-use mathlib.Core.List.{List}
 use mathlib.Core.Logic.{inl, inr}
 use native.Mathlib.Omega.{arith}
-use lib.ListN.{length, length-replicate}
+use lib.ListN.{length}
+use Rattle.sets.specs.Rows.{SetRow}
+use Rattle.sets.proofs.SameRows.{empty-length}
 use Rattle.reading.specs.Tree.{Tree, listing}
-use Rattle.solving.specs.Walk.{Stands}
+use Rattle.solving.specs.inner.Table.{tableSize}
+use Rattle.solving.specs.inner.Walk.{Stands}
 use Rattle.solving.proofs.Leastness.{busy-exceeds}
 use Rattle.solving.proofs.Settling.{Reached, reached-none, reached-more, settled-if, answered-by, spelled-stands, spelled-within}
 use Rattle.solving.proofs.rounds.settle.Statement.{statement}
@@ -16,7 +18,7 @@ use Rattle.solving.proofs.rounds.settle.Tie as tie
 
 abbrev Inv-loop : tie.InvT-loop
 Inv-loop head nodes allowance table₀ count₀ table count =
-    (count ≤ allowance) × (length table ≡ 544) × ((p : Tree) → Stands nodes 0 (listing p) → Reached p count table)
+    (count ≤ allowance) × (length table ≡ tableSize) × ((p : Tree) → Stands nodes 0 (listing p) → Reached p count table)
 
 abbrev μ-loop : tie.MeasureT-loop
 μ-loop head nodes allowance table₀ count₀ table count = allowance - count
@@ -27,7 +29,7 @@ empty-requires c κs = tt
 loop-holds : tie.Need-loop-holds Inv-loop μ-loop
 loop-holds c =
     let e = c .empty .ensures in
-    (omega arith, ap (λ (t : List ℕ). length t) e ∙ length-replicate {A = ℕ} 544 0, λ p h. subst⁻¹ (Reached p 0) e (reached-none p))
+    (omega arith, ap (λ (t : SetRow). length t) e ∙ empty-length tableSize, λ p h. subst⁻¹ (Reached p 0) e (reached-none p))
 
 round-requires : tie.Need-round-requires Inv-loop μ-loop
 round-requires c κs = (c .before .before .before .args .head, c .before .before .before .pre)

@@ -4,19 +4,20 @@ use Prim.Native.Nat.{ℕ, _-_, _≤_}
 use mathlib.Core.Path.{_≡_, _∙_, subst}
 use native.Mathlib.Omega.{arith}
 use lib.ListN.{length}
+use Rattle.limits.specs.Limits.{levels}
 use Rattle.sets.specs.Set.{Has}
 use Rattle.sets.specs.Rows.{Joins, Over}
-use Rattle.solving.specs.Table.{insAt, SentOn}
+use Rattle.solving.specs.inner.Table.{tableSize, insAt, SentOn}
 use Rattle.solving.proofs.Tables.{sent-on-none, sent-on-more, merged-at}
 use Rattle.solving.proofs.table.gather.Statement.{statement}
 use Rattle.solving.proofs.table.gather.Tie as tie
 
 abbrev Inv-loop : tie.InvT-loop
 Inv-loop new₀ level channels old from₀ new from =
-    (from ≤ 8) × (length new ≡ 544) × Joins new₀ new (Over (insAt level) (Has channels) (SentOn old from))
+    (from ≤ levels) × (length new ≡ tableSize) × Joins new₀ new (Over (insAt level) (Has channels) (SentOn old from))
 
 abbrev μ-loop : tie.MeasureT-loop
-μ-loop new₀ level channels old from₀ new from = 8 - from
+μ-loop new₀ level channels old from₀ new from = levels - from
 
 loop-holds : tie.Need-loop-holds Inv-loop μ-loop
 loop-holds c =

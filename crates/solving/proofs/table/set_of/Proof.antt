@@ -1,8 +1,10 @@
 -- A channel has the set of itself alone; a binder's set stands at its number.
 -- Assumes nothing.
 use mathlib.Core.Path.{subst}
-use Rattle.solving.specs.Table.{MarkerFits}
-use Rattle.solving.proofs.Steps.{set-of-channel, set-of-binder}
+use native.Mathlib.Omega.{arith}
+use Rattle.limits.specs.Limits.{mostChannels}
+use Rattle.solving.specs.inner.Table.{MarkerFits}
+use Rattle.solving.proofs.Steps.{set-of-channel, single-narrow, set-of-binder}
 use borrow.Author.Needs.{needs}
 use Rattle.solving.proofs.table.set_of.Statement.{statement}
 use Rattle.solving.proofs.table.set_of.Tie as tie
@@ -22,19 +24,23 @@ enum-known-x-2 c = search needs
 cast-i : tie.Need-cast-i
 cast-i c = search needs
 
-mul-result : tie.Need-mul-result
-mul-result c = search needs
-
-element-copy-out-result : tie.Need-element-copy-out-result
-element-copy-out-result c = search needs
+at-requires : tie.Need-at-requires
+at-requires c κs =
+    let known = c .before .before in
+    let fits = subst MarkerFits (known .x2 .given .1) (known .before .before .pre .0) in
+    omega (arith, known .before .before .pre .1)
 
 returns : tie.Need-returns
-returns c = set-of-channel _ _ _ _ (c .before .before .x .given .1) (c .single .ensures)
+returns c =
+    let known = c .before .before in
+    let fits = subst MarkerFits (known .x .given .1) (known .before .before .pre .0) in
+    (set-of-channel _ _ _ _ (known .x .given .1) (c .single .ensures), single-narrow mostChannels _ _ fits (c .single .ensures))
 
 returns-2 : tie.Need-returns-2
 returns-2 c =
-    let e = c .before .before .x2 .given .1 in
-    set-of-binder _ _ _ e (subst MarkerFits e (c .before .before .before .before .pre .0))
+    let known = c .before .before .before in
+    let e = known .x2 .given .1 in
+    (set-of-binder _ _ _ _ e (subst MarkerFits e (known .before .before .pre .0)) (c .at .ensures .0), c .at .ensures .1)
 
 pub set-of-spec : {M : Type 1} → statement M
 set-of-spec =
@@ -45,7 +51,6 @@ set-of-spec =
     single-requires
     enum-known-x-2
     cast-i
-    mul-result
-    element-copy-out-result
+    at-requires
     returns
     returns-2)

@@ -1,0 +1,36 @@
+-- The case of an answer tells what was judged of the line. Assumes nothing.
+use Prim.Native.Nat.{ℕ}
+use mathlib.Core.Path.{_≡_}
+use native.Mathlib.Omega.{arith}
+use Rattle.lines.specs.declared.Entry.{Entry}
+use Rattle.lines.specs.declared.FreeName.{FreeName}
+use Rattle.lines.specs.declared.Head.{Head}
+use Rattle.lines.specs.declared.Node.{Node}
+use Rattle.lines.specs.declared.Opening.{Opening}
+use Rattle.lines.specs.declared.Step.{Step}
+use Rattle.lines.specs.Frames.{Judged, faulty, fine}
+use Rattle.lines.specs.Values.{openingOf, entryOf, stepOf}
+
+pub opening-faulty : (j : Judged Head) (w : ℕ) → openingOf j ≡ Opening.Faulty w → j ≡ faulty w
+opening-faulty (faulty n) w e = cc
+opening-faulty (fine h) w e = let z : _≡_ {A = ℕ} 0 1 = cc in absurd (omega arith)
+
+pub opening-found : (j : Judged Head) (h : Head) → openingOf j ≡ Opening.Found h → j ≡ fine h
+opening-found (faulty n) h e = let z : _≡_ {A = ℕ} 0 1 = cc in absurd (omega arith)
+opening-found (fine g) h e = cc
+
+pub entry-faulty : (j : Judged FreeName) (w : ℕ) → entryOf j ≡ Entry.Faulty w → j ≡ faulty w
+entry-faulty (faulty n) w e = cc
+entry-faulty (fine f) w e = let z : _≡_ {A = ℕ} 0 1 = cc in absurd (omega arith)
+
+pub entry-found : (j : Judged FreeName) (name : FreeName) → entryOf j ≡ Entry.Found name → j ≡ fine name
+entry-found (faulty n) name e = let z : _≡_ {A = ℕ} 0 1 = cc in absurd (omega arith)
+entry-found (fine f) name e = cc
+
+pub step-faulty : (j : Judged Node) (w : ℕ) → stepOf j ≡ Step.Faulty w → j ≡ faulty w
+step-faulty (faulty n) w e = cc
+step-faulty (fine n) w e = let z : _≡_ {A = ℕ} 0 1 = cc in absurd (omega arith)
+
+pub step-found : (j : Judged Node) (node : Node) → stepOf j ≡ Step.Found node → j ≡ fine node
+step-found (faulty n) node e = let z : _≡_ {A = ℕ} 0 1 = cc in absurd (omega arith)
+step-found (fine n) node e = cc

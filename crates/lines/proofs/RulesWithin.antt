@@ -1,0 +1,151 @@
+-- The rules keep the limits: what they judge is a number from 1 to 13, or something within the head's limits whose markers are given.
+-- Assumes nothing.
+use Prim.Native.Nat.{ℕ, suc, _<_}
+use mathlib.Core.Path.{_≡_, refl}
+use mathlib.Core.Bool.{Bool, true, false, cond, _||_}
+use mathlib.Core.List.{List, [], _∷_}
+use native.Mathlib.Omega.{arith}
+use lib.Dec.{leb, ltb, eqb}
+use lib.ListN.{length}
+use borrow.Author.Tests.{leb-false, ltb-false, eqb-false}
+use Rattle.lines.specs.declared.Head.{Head}
+use Rattle.lines.specs.declared.FreeName.{FreeName}
+use Rattle.lines.specs.declared.Marker.{Marker}
+use Rattle.lines.specs.declared.Node.{Node}
+use Rattle.lines.specs.declared.Node.the-variants.{Nil, Silent, Send, Receive, Sum, Parallel, Restriction, Match, Replication, Bracket}
+use Rattle.lines.specs.declared.scope.Meaning.{Meaning}
+use Rattle.lines.specs.declared.scope.Meaning.the-variants.{Nothing, Is}
+use Rattle.lines.specs.declared.frames.Frame.{Frame}
+use Rattle.lines.specs.declared.frames.Span.{Span}
+use Rattle.lines.specs.declared.frames.Kind.{Kind}
+use Rattle.lines.specs.declared.frames.Kind.the-variants as kind
+use Rattle.limits.specs.Limits.{mostChannels, mostBinders, highestLevel, highestName, mostNames}
+use Rattle.lines.specs.Text.{Line, isFaulty, bytesOf}
+use Rattle.lines.specs.Frames.{outside, Judged, faulty, fine, andOn, byte, frameOf, rowIn, frameFor, frameIn}
+use Rattle.lines.specs.Scope.{Scope}
+use Rattle.lines.specs.Rules.{edition, outsideLimits, headRule, nameRule, meant, pairRule, receiveRule, restrictionRule, bracketRule, nodeBy}
+use Rattle.lines.specs.Promise.{Gives, HeadWithin, NameWithin, MarkerWithin, IsGiven, ScopeWithin, NodeGood}
+use Rattle.lines.proofs.Tests.{or-false}
+
+-- ---- a test, and one thing judged after the other
+
+pub gives-cond : {A : Type 0} (P : A → Type 0) (b : Bool) (x y : Judged A) → (b ≡ true → Gives P x) → (b ≡ false → Gives P y) → Gives P (cond b x y)
+gives-cond P true x y h k = h refl
+gives-cond P false x y h k = k refl
+
+pub gives-on : {A B : Type 0} (P : A → Type 0) (Q : B → Type 0) (j : Judged A) (go-on : A → Judged B)
+    → Gives P j → ((a : A) → P a → Gives Q (go-on a)) → Gives Q (andOn j go-on)
+gives-on P Q (faulty n) go-on h k = h
+gives-on P Q (fine a) go-on h k = k a h
+
+-- what holds besides
+pub gives-more : {A : Type 0} (P : A → Type 0) (Q : Type 0) → Q → (j : Judged A) → Gives P j → Gives (λ a. P a × Q) j
+gives-more P Q q (faulty n) w = w
+gives-more P Q q (fine a) w = (w, q)
+
+-- ---- a frame
+
+some-frame : (P : List ℕ → Type 0) (row : Frame) (span : Span) (size : ℕ) (frame : List ℕ) → P frame → Gives P (rowIn row span size frame)
+unfolding rowIn
+some-frame P row span size frame h =
+    gives-cond P (outside span (row .section)) (faulty 3) (cond (eqb size (row .size)) (fine frame) (faulty 4)) (λ e. omega arith)
+    (λ e. gives-cond P (eqb size (row .size)) (fine frame) (faulty 4) (λ e. h) (λ e. omega arith))
+
+-- a frame stands on a line that is there
+pub some-line : (span : Span) (left : List Line) → Gives (λ (frame : List ℕ). 0 < length left) (frameIn span left)
+unfolding frameIn
+some-line span [] = omega arith
+some-line span (l ∷ ls) =
+    let P : List ℕ → Type 0 = λ frame. 0 < suc (length ls) in
+    let frame = bytesOf (l .characters) in
+    gives-cond P (isFaulty l) (faulty 2) (frameFor span frame) (λ e. omega arith)
+    (λ e. some-frame P (frameOf (byte 0 frame)) span (length frame) frame (omega arith))
+
+-- ---- the rules
+
+pub head-within : (said : ℕ) (h : Head) → Gives HeadWithin (headRule said h)
+unfolding headRule outsideLimits
+head-within said h =
+    gives-cond HeadWithin (eqb said edition) (cond (outsideLimits h) (faulty 6) (fine h)) (faulty 5)
+    (λ e. gives-cond HeadWithin (outsideLimits h) (faulty 6) (fine h) (λ e. omega arith) within)
+    (λ e. omega arith)
+  where
+    within : outsideLimits h ≡ false → HeadWithin h
+    within e =
+        let a = or-false (eqb (h .channels) 0) _ e in
+        let b = or-false (ltb mostChannels (h .channels)) _ (a .1) in
+        let d = or-false (ltb mostBinders (h .binders)) _ (b .1) in
+        let f = or-false (ltb highestLevel (h .top)) _ (d .1) in
+        let none : h .channels ≡ 0 → ⊥ = eqb-false (h .channels) 0 (a .0) in
+        record {
+          some = omega arith;
+          channels = ltb-false mostChannels (h .channels) (b .0);
+          binders = ltb-false mostBinders (h .binders) (d .0);
+          top = ltb-false highestLevel (h .top) (f .0);
+          names = ltb-false mostNames (h .names) (f .1);
+        }
+
+pub name-within : (h : Head) (least name channel : ℕ) → Gives (NameWithin h least) (nameRule h least name channel)
+unfolding nameRule
+name-within h least name channel =
+    gives-cond (NameWithin h least) (ltb highestName name || leb (h .channels) channel) (faulty 7) later (λ e. omega arith)
+    (λ e. gives-cond (NameWithin h least) (ltb name least) (faulty 8) (fine (record { name = name; channel = channel })) (λ e. omega arith)
+    (λ q. let a = or-false (ltb highestName name) (leb (h .channels) channel) e in
+    (ltb-false name least q, ltb-false highestName name (a .0), leb-false (h .channels) channel (a .1))))
+  where
+    later : Judged FreeName
+    later = cond (ltb name least) (faulty 8) (fine (record { name = name; channel = channel }))
+
+module _ (h : Head) (given : List Marker) (scope : Scope) (within : ScopeWithin h given scope) where
+  gives-meant : (P : Node → Type 0) (name : ℕ) (go-on : Marker → Judged Node)
+      → ((m : Marker) → MarkerWithin h m → IsGiven given m → Gives P (go-on m)) → Gives P (meant (scope name) go-on)
+  gives-meant P name go-on k = go (scope name) refl
+    where
+      go : (m : Meaning) → scope name ≡ m → Gives P (meant m go-on)
+      go Nothing e = omega arith
+      go (Is m) e = let w = within name m e in k m (w .0) (w .1)
+
+  pair-within : (node : Marker → Marker → Node) (x y : ℕ)
+      → ((m n : Marker) → MarkerWithin h m → MarkerWithin h n → IsGiven given m → IsGiven given n → NodeGood h given (node m n))
+      → Gives (NodeGood h given) (pairRule node scope x y)
+  unfolding pairRule
+  pair-within node x y good =
+      gives-cond (NodeGood h given) (ltb highestName x || ltb highestName y) (faulty 7) _ (λ e. omega arith)
+      (λ e. gives-meant (NodeGood h given) x (λ m. meant (scope y) λ n. fine (node m n))
+      (λ m mw mg. gives-meant (NodeGood h given) y (λ n. fine (node m n)) (λ n nw ng. good m n mw nw mg ng)))
+
+  receive-within : (x y binder : ℕ) → Gives (NodeGood h given) (receiveRule h scope x y binder)
+  unfolding receiveRule
+  receive-within x y binder =
+      gives-cond (NodeGood h given) (ltb highestName x || (ltb highestName y || leb (h .binders) binder)) (faulty 7) _ (λ e. omega arith)
+      (λ e. let a = or-false (ltb highestName x) _ e in
+      let b = or-false (ltb highestName y) (leb (h .binders) binder) (a .1) in
+      gives-meant (NodeGood h given) x (λ m. fine (Receive m y binder))
+      (λ m mw mg. ((mw, ltb-false highestName y (b .0), leb-false (h .binders) binder (b .1)), mg)))
+
+  restriction-within : (x channel : ℕ) → Gives (NodeGood h given) (restrictionRule h x channel)
+  unfolding restrictionRule
+  restriction-within x channel =
+      gives-cond (NodeGood h given) (ltb highestName x || leb (h .channels) channel) (faulty 7) _ (λ e. omega arith)
+      (λ e. let a = or-false (ltb highestName x) (leb (h .channels) channel) e in
+      ((ltb-false highestName x (a .0), leb-false (h .channels) channel (a .1)), tt))
+
+  bracket-within : (level : ℕ) → Gives (NodeGood h given) (bracketRule h level)
+  unfolding bracketRule
+  bracket-within level =
+      gives-cond (NodeGood h given) (ltb (h .top) level) (faulty 7) _ (λ e. omega arith) (λ e. (ltb-false (h .top) level e, tt))
+
+  pub node-within : (k : Kind) (frame : List ℕ) → Gives (NodeGood h given) (nodeBy k h scope frame)
+  node-within kind.Head frame = omega arith
+  node-within kind.Name frame = omega arith
+  node-within kind.Nil frame = (tt, tt)
+  node-within kind.Silent frame = (tt, tt)
+  node-within kind.Send frame = pair-within Send (byte 1 frame) (byte 2 frame) (λ m n a b c d. ((a, b), (c, d)))
+  node-within kind.Receive frame = receive-within (byte 1 frame) (byte 2 frame) (byte 3 frame)
+  node-within kind.Sum frame = (tt, tt)
+  node-within kind.Parallel frame = (tt, tt)
+  node-within kind.Restriction frame = restriction-within (byte 1 frame) (byte 2 frame)
+  node-within kind.Match frame = pair-within Match (byte 1 frame) (byte 2 frame) (λ m n a b c d. ((a, b), (c, d)))
+  node-within kind.Replication frame = (tt, tt)
+  node-within kind.Bracket frame = bracket-within (byte 1 frame)
+  node-within kind.Unknown frame = omega arith

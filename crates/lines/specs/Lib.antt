@@ -1,0 +1,9 @@
+-- What one line of a plan text says: document 01's 'Plan text' and 'Refusal numbers', in their order, as far as they speak of a line.
+pub mod Text
+pub mod Frames
+pub mod Scope
+pub mod Rules
+pub mod Line
+pub mod Values
+pub mod Promise
+pub mod inner

@@ -1,0 +1,29 @@
+-- Document 01, 'Refusal numbers': what the next line says as the head's, a free name's or a node's: its frame first (12, 2, 3, 4), room and
+-- depth for a node (10, 11), then the rule of its frame.
+-- Assumes nothing.
+use Prim.Native.Nat.{ℕ}
+use mathlib.Core.Bool.{cond}
+use mathlib.Core.List.{List}
+use lib.Dec.{leb, eqb}
+use Rattle.lines.specs.declared.FreeName.{FreeName}
+use Rattle.lines.specs.declared.Head.{Head}
+use Rattle.lines.specs.declared.Node.{Node}
+use Rattle.limits.specs.Limits.{mostNodes}
+use Rattle.lines.specs.Text.{Line}
+use Rattle.lines.specs.Frames.{firstLine, freeNames, treeLines, only, Judged, faulty, andOn, frameIn}
+use Rattle.lines.specs.Scope.{Scope}
+use Rattle.lines.specs.Rules.{headIn, nameIn, nodeIn}
+
+-- the head, on the first line
+unfoldable pub firstHead : List Line → Judged Head
+firstHead left = andOn (frameIn (only firstLine) left) headIn
+
+-- a free name that is `least` or more
+unfoldable pub nextName : Head → ℕ → List Line → Judged FreeName
+nextName h least left = andOn (frameIn (only freeNames) left) (nameIn h least)
+
+-- a node, with so much depth left and so many nodes read: 10, 11, then its own rule
+unfoldable pub nextNode : ℕ → Head → Scope → ℕ → List Line → Judged Node
+nextNode depth h scope count left =
+    andOn (frameIn (only treeLines) left) λ frame.
+    cond (leb mostNodes count) (faulty 10) (cond (eqb depth 0) (faulty 11) (nodeIn h scope frame))

@@ -1,0 +1,134 @@
+// The sections of a text, the table of frames, and the frame on a line.
+ghost use mathlib.Core.Path.{_≡_};
+ghost use Rattle.lines.specs.declared.frames.Frame.{Frame};
+ghost use Rattle.lines.specs.Frames.{only, outside, frameOf, rowIn, frameIn};
+ghost use Rattle.lines.specs.Values.{restAt};
+ghost use Rattle.lines.specs.inner.Working.{rowOf, framedOf};
+use crate::text::byte_in;
+use crate::text::is_faulty;
+use crate::text::line_end;
+
+// The sections of a text, in order; a byte that begins no frame stands nowhere, which is before all of them.
+const NOWHERE: u8 = 0;
+
+pub(crate) const FIRST_LINE: u8 = 1;
+
+pub(crate) const FREE_NAMES: u8 = 2;
+
+pub(crate) const TREE_LINES: u8 = 3;
+
+// The sections that the next line may stand in: from the one that reading stands in to the last that may come now.
+pub(crate) struct Span {
+    pub(crate) from: u8,
+    pub(crate) to: u8,
+}
+
+// The kinds of frame, and none.
+pub(crate) enum Kind {
+    Head,
+    Name,
+    Nil,
+    Silent,
+    Send,
+    Receive,
+    Sum,
+    Parallel,
+    Restriction,
+    Match,
+    Replication,
+    Bracket,
+    Unknown,
+}
+
+// A row of the table: in which section a frame stands, its kind, and how many bytes it has.
+pub(crate) struct Frame {
+    pub(crate) section: u8,
+    pub(crate) kind: Kind,
+    pub(crate) size: usize,
+}
+
+// What a line is at this point: a refusal's number, or a frame.
+pub(crate) enum Framed {
+    Faulty(u8),
+    Frame(Frame),
+}
+
+// One section alone.
+pub(crate) fn only(section: u8) -> Span
+    ensures { λ r. ⌜ r ≡ only section ⌝ }
+{
+    Span {
+        from: section,
+        to: section,
+    }
+}
+
+// Whether a section is not allowed.
+fn outside(span: Span, section: u8) -> bool
+    ensures { λ r. ⌜ r ≡ outside span section ⌝ }
+{
+    if section < span.from {
+        return true;
+    }
+    span.to < section
+}
+
+// A row of the table.
+fn row(section: u8, kind: Kind, size: usize) -> Frame
+    ensures { λ r. ⌜ r ≡ record { section = section; kind = kind; size = size } ⌝ }
+{
+    Frame {
+        section,
+        kind,
+        size,
+    }
+}
+
+// The frame that a first byte begins.
+fn frame_of(first: u8) -> Frame
+    ensures { λ r. ⌜ r ≡ frameOf first ⌝ }
+{
+    match first {
+        0x01 => row(FIRST_LINE, Kind::Head, 6),
+        0x02 => row(FREE_NAMES, Kind::Name, 3),
+        0x10 => row(TREE_LINES, Kind::Nil, 1),
+        0x11 => row(TREE_LINES, Kind::Silent, 1),
+        0x12 => row(TREE_LINES, Kind::Send, 3),
+        0x13 => row(TREE_LINES, Kind::Receive, 4),
+        0x14 => row(TREE_LINES, Kind::Sum, 1),
+        0x15 => row(TREE_LINES, Kind::Parallel, 1),
+        0x16 => row(TREE_LINES, Kind::Restriction, 3),
+        0x17 => row(TREE_LINES, Kind::Match, 3),
+        0x18 => row(TREE_LINES, Kind::Replication, 1),
+        0x19 => row(TREE_LINES, Kind::Bracket, 2),
+        _ => row(NOWHERE, Kind::Unknown, 0),
+    }
+}
+
+// What a row of the table is at this point, for a frame of so many bytes: 3 and 4 are judged, in this order.
+fn row_in(row: Frame, span: Span, size: usize) -> Framed
+    ensures { λ r. ⌜ r ≡ framedOf (λ (f : Frame). f) (rowIn row span size row) ⌝ }
+{
+    if outside(span, row.section) {
+        return Framed::Faulty(3);
+    }
+    if size != row.size {
+        return Framed::Faulty(4);
+    }
+    Framed::Frame(row)
+}
+
+// What the line at `at` is at this point: 12, 2, 3 and 4 are judged, in this order.
+pub(crate) fn frame_in(text: &[u8], span: Span, at: usize) -> Framed
+    ensures { λ r. ⌜ r ≡ framedOf rowOf (frameIn span (restAt (now (text .entry)) at)) ⌝ }
+{
+    if text.len() <= at {
+        return Framed::Faulty(12);
+    }
+    let end = line_end(text, at);
+    if is_faulty(text, at, end) {
+        return Framed::Faulty(2);
+    }
+    let row = frame_of(byte_in(text, at, 0));
+    row_in(row, span, (end - at) / 2)
+}

@@ -1,0 +1,120 @@
+// What one line of a plan text says, as the head's, a free name's or a node's: a refusal's number, or what was found.
+// The way of the data: text (a line's characters and bytes), frames (the table), scope (what names mean), rules (what a frame's bytes say), and the
+// line here. Proved: each operation answers as document 01 judges the line at that position. It knows nothing of the lines before and behind:
+// a caller says which section reading stands in by the operation, and what was read before by its arguments.
+ghost use mathlib.Core.Path.{_≡_};
+ghost use Rattle.lines.specs.Line.{firstHead, nextName, nextNode};
+ghost use Rattle.lines.specs.Values.{restAt, openingOf, entryOf, stepOf, meaningIn};
+use crate::frames::FIRST_LINE;
+use crate::frames::FREE_NAMES;
+use crate::frames::Framed;
+use crate::frames::TREE_LINES;
+use crate::frames::frame_in;
+use crate::frames::only;
+use crate::rules::head_in;
+use crate::rules::name_in;
+use crate::rules::node_in;
+use crate::scope::Scope;
+use limits::MOST_NODES;
+
+mod frames;
+mod rules;
+pub mod scope;
+pub mod text;
+
+// What a name stands for: a channel, or a receive's binder.
+pub enum Marker {
+    Channel(u8),
+    Binder(u8),
+}
+
+// A node of the tree, with the numbers of its frame and the markers of the names it uses.
+pub enum Node {
+    Nil,
+    Silent,
+    Send(Marker, Marker),
+    Receive(Marker, u8, u8),
+    Sum,
+    Parallel,
+    Restriction(u8, u8),
+    Match(Marker, Marker),
+    Replication,
+    Bracket(u8),
+}
+
+// The head's numbers: C channels, B binders, levels 0 to k (the top), F free names.
+pub struct Head {
+    pub channels: u8,
+    pub binders: u8,
+    pub top: u8,
+    pub names: u8,
+}
+
+// A free name and its channel.
+pub struct FreeName {
+    pub name: u8,
+    pub channel: u8,
+}
+
+// What the first line says: a refusal's number, or the head.
+pub enum Opening {
+    Faulty(u8),
+    Found(Head),
+}
+
+// What a free name's line says: a refusal's number, or the name.
+pub enum Entry {
+    Faulty(u8),
+    Found(FreeName),
+}
+
+// What a node's line says: a refusal's number, or the node.
+pub enum Step {
+    Faulty(u8),
+    Found(Node),
+}
+
+// What the line at `at` says as the first line.
+pub fn first_head(text: &[u8], at: usize) -> Opening
+    ensures { λ r. ⌜ r ≡ openingOf (firstHead (restAt (now (text .entry)) at)) ⌝ }
+{
+    match frame_in(text, only(FIRST_LINE), at) {
+        Framed::Faulty(number) => Opening::Faulty(number),
+        Framed::Frame(_) => head_in(text, at),
+    }
+}
+
+// What the line at `at` says as a free name's, which has to be `least` or more.
+pub fn next_name(text: &[u8], at: usize, head: Head, least: usize) -> Entry
+    ensures { λ r. ⌜ r ≡ entryOf (nextName head least (restAt (now (text .entry)) at)) ⌝ }
+{
+    match frame_in(text, only(FREE_NAMES), at) {
+        Framed::Faulty(number) => Entry::Faulty(number),
+        Framed::Frame(_) => name_in(text, at, head, least),
+    }
+}
+
+// What the line at `at` says as a node's, with `depth` left and `count` nodes read.
+pub fn next_node(
+    text: &[u8],
+    at: usize,
+    depth: usize,
+    head: Head,
+    scope: Scope,
+    count: usize,
+) -> Step
+    ensures { λ r. ⌜ r ≡ stepOf (nextNode depth head (meaningIn scope) count (restAt (now (text .entry)) at)) ⌝ }
+{
+    match frame_in(text, only(TREE_LINES), at) {
+        Framed::Faulty(number) => Step::Faulty(number),
+        Framed::Frame(frame) => {
+            if MOST_NODES <= count {
+                return Step::Faulty(10);
+            }
+            if depth == 0 {
+                return Step::Faulty(11);
+            }
+            node_in(text, at, frame, head, scope)
+        }
+    }
+}
