@@ -137,7 +137,7 @@ for page in PLAN ANALYSIS; do
     pairs $page
     while read -r number line allowance heading; do
         if [ "$allowance" != - ] && [ ! -x target/bin/batch ]; then
-            echo "pages.sh: docs/$page.md:$line: not tried: target/bin/batch is not built"
+            fault "docs/$page.md:$line: not tried: target/bin/batch is not built"
             continue
         fi
         answer "$work/$page.$number.text" "$allowance" >"$work/out"
@@ -400,4 +400,47 @@ for sheets in examples "$work"; do
     tell "$work/said"
 done
 
+# ---- pointers: a name that stands before a file in brackets is in that file, and a must-fail edit that a page names is there
+
+pages='README.md docs/PROMISES.md docs/DECISIONS.md docs/TRUST.md docs/PROVING.md'
+grep -ohE '(`[^`]+`(, | and )?)+ \([A-Za-z0-9_./+-]+\.(antt|rt|rs|sh|edit)\)' $pages | sed 's/^\(.*\) (\(.*\))$/\2 \1/' >"$work/pointers"
+hold 'the pages point to no definitions' [ "$(wc -l <"$work/pointers")" -ge 60 ]
+while read -r file names; do
+    where=crates/$file
+    [ -f "$where" ] || where=$file
+    echo "$names" | grep -oE '`[^`]+`' | tr -d '`' >"$work/names"
+    while read -r name; do
+        hold "there is no $name in $file" grep -qF -e "$name" "$where"
+    done <"$work/names"
+done <"$work/pointers"
+sed -n 's/^| [^|]* | \([a-z]*\)\/\([a-z_]*\) | .*/\1 \2/p' docs/PROMISES.md >"$work/edits"
+hold 'PROMISES.md names no must-fail edits' [ "$(wc -l <"$work/edits")" -ge 16 ]
+while read -r crate edit; do
+    hold "there is no edit $crate/$edit" [ -f "crates/$crate/must-fail/$edit.edit" ]
+done <"$work/edits"
+
+# ---- numbers that stand on many pages are the one number
+
+# number WANTED PATTERN: every number of that form on the pages is one of those wanted.
+number() {
+    grep -ohE "$2" $pages docs/PLAN.md docs/ANALYSIS.md | sort -u | tr '\n' ' ' >"$work/out"
+    hold "the pages say $(cat "$work/out"), and not $1" [ "$(cat "$work/out")" = "$1 " ]
+}
+number 17,409 '17,4[0-9]{2}'
+number '16,384 16,385' '16,3[0-9]{2}'
+number '65,535 65,536' '65,5[0-9]{2}'
+number 8,128 '8,1[0-9]{2}'
+rounds=$(sed -n 's/^pub const CEILING: u16 = \([0-9]*\);$/\1/p' crates/solving/src/lib.rt)
+hold 'the most rounds are another number than the pages say' [ "$rounds" = 17409 ]
+hold 'README: the exit statuses are not those of ./sheet' grep -qF 'exits with 0 for clear, 1 for a breach, 2 for refused and 3 for trouble of its own' README.md
+
+# ---- the branches of the table of frames are those of the definitions
+
+sed -n 's/^branchCount (*\([A-Z][a-z]*\)[^=]*= \([0-9]\)$/\1 \2/p' crates/*/specs/Tree.antt | tr 'A-Z' 'a-z' | sort >"$work/counts"
+section docs/PLAN.md '## The frames' | awk -F '|' '/^\| `1/ { name = $7; sub(/:.*/, "", name); gsub(/ step/, "", name); gsub(/ /, "", name); gsub(/ /, "", $6); print name, $6 }' | sort >"$work/branches"
+hold 'docs/PLAN.md: there are no branches' [ -s "$work/counts" ]
+same 'docs/PLAN.md: the branches are not those of branchCount' "$work/counts" "$work/branches"
+
+# Fewer checks than these were made only if some are lost.
+hold 'checks are lost' [ $((passed + failed)) -ge 480 ]
 finish

@@ -18,18 +18,29 @@ same() {
     fi
 }
 
-# prints PROGRAM NAME INPUT OUTPUT: for an input it prints just the output; both in the notation of printf.
+# gives PROGRAM NAME: for $work/in it prints just $work/wanted, and ends with status 0.
+gives() {
+    ./run "target/bin/$1" <"$work/in" >"$work/out" || echo "status $?" >>"$work/out"
+    same "$1: $2" "$work/wanted" "$work/out"
+}
+
+# prints PROGRAM NAME INPUT OUTPUT: the same, both in the notation of printf.
 prints() {
     printf "$3" >"$work/in"
     printf "$4" >"$work/wanted"
-    ./run "target/bin/$1" <"$work/in" >"$work/out"
-    same "$1: $2" "$work/wanted" "$work/out"
+    gives "$1" "$2"
 }
 
 # answers NAME: the plan in $work/in has the sheet in $work/wanted.
 answers() {
-    ./run target/bin/plan <"$work/in" >"$work/out"
-    same "plan: $1" "$work/wanted" "$work/out"
+    gives plan "$1"
+}
+
+# as_second NAME: the plan in $work/in has the sheet that the second program gives it.
+second=second/target/release/second
+as_second() {
+    "$second" sheet <"$work/in" >"$work/wanted" || echo 'no second program' >"$work/wanted"
+    gives plan "$1"
 }
 
 # A relay of 251 nodes that takes 3,073 rounds.
@@ -52,18 +63,49 @@ printf '3f010000\nrefused\n' >"$work/wanted"
 answers '16,385 bytes, one too many'
 pad 53615 >>"$work/in"
 answers '70,000 bytes'
-# A plan of 133 bytes, and a line more: all of the text is looked at, and not just a plan at its front.
-{ printf "$small" && printf '10\n%.0s' 1 2 3 4 5 6 7 8 9 10; } >"$work/in"
+# The same at lengths in between, whatever a buffer's size may be.
 printf '3f0d0003\nrefused\n' >"$work/wanted"
-answers 'a plan, and ten lines more'
+for size in 17 18 63 64 65 127 128 129 255 256 257 511 513 1023 1024 1025 1500 2000 2047 2048 2049 2500 3000 4095 4096 4097 5000 6000 8127 8128 8129 8191 8192 \
+    8193 10000 12000 14000 16000 16382 16383; do
+    { printf "$small" && pad $((size - 16)); } >"$work/in"
+    answers "$size bytes"
+done
+
+# relay LEAVES FROM TO: a plan of so many leaves, six nodes each, beside a send at one level and a receive at another; 36 leaves are about the most.
+bush() {
+    if [ "$1" = 1 ]; then
+        printf '13000200\n13000200\n13000200\n13000200\n13000200\n10\n'
+    else
+        printf '15\n'
+        bush $(($1 / 2))
+        bush $(($1 - $1 / 2))
+    fi
+}
+relay() {
+    printf '01010201013f\n'
+    name=0
+    while [ $name -lt 63 ]; do
+        printf '02%02x%02x\n' $name $((name % 2))
+        name=$((name + 1))
+    done
+    printf '15\n'
+    bush "$1"
+    printf '15\n19%02x\n120001\n10\n19%02x\n13000200\n10\n' "$2" "$3"
+}
+for leaves in 1 2 3 5 8 12 16 20 24 28 32 34; do
+    relay $leaves 1 0 >"$work/in"
+    as_second "a relay of $leaves leaves and a breach, $(wc -c <"$work/in" | tr -d ' ') bytes"
+    relay $leaves 0 1 >"$work/in"
+    as_second "a relay of $leaves leaves and no breach"
+done
 
 # The input is read to its end: whoever writes it is not broken off, however long it is.
 {
-    pad 3000000
+    pad 60000000
     echo $? >"$work/status"
 } | ./run target/bin/plan >"$work/out"
 printf '3f010000\nrefused\n' >"$work/wanted"
-same 'plan: 3,000,000 bytes' "$work/wanted" "$work/out"
+same 'plan: 60,000,000 bytes' "$work/wanted" "$work/out"
 echo 0 >"$work/wanted"
 same 'plan: their writer is heard out' "$work/wanted" "$work/status"
 
@@ -122,5 +164,31 @@ printf "3f010000\nrefused\n$sheet" >"$work/wanted"
 ./run target/bin/batch <"$work/in" >"$work/out"
 same 'batch: a length of 65,536' "$work/wanted" "$work/out"
 
+# More records than any counter of a few digits holds.
+yes 0000000000004401 | head -n 70000 >"$work/in"
+yes '3f010000
+refused' | head -n 140000 >"$work/wanted"
+gives batch '70,000 records'
+
+# What no contract covers is the programs' own text. `plan` has no branch and no number of its own but the loop that reads to the end, whose turns
+# are as many as a number can count: what it prints is what `of_input` makes of what it read.
+sed 's,//.*,,' crates/plan/src/main.rt >"$work/code"
+grep -owE 'if|match|loop|for|return' "$work/code" >"$work/out"
+: >"$work/wanted"
+same 'plan: no branch' "$work/wanted" "$work/out"
+grep -oE '(^|[^A-Za-z0-9_])[0-9][0-9A-Za-z_]*' "$work/code" | tr -d ' [' | tr '\n' ' ' >"$work/out"
+printf '0 0 1 0u8 ' >"$work/wanted"
+same 'plan: no number' "$work/wanted" "$work/out"
+for program in plan batch; do
+    grep -c 'u64::MAX' "crates/$program/src/main.rt" >"$work/out"
+    echo 1 >"$work/wanted"
+    same "$program: its turns" "$work/wanted" "$work/out"
+done
+
+# Fewer checks than these were made only if some are lost.
+[ $((passed + failed)) -ge 99 ] || {
+    failed=$((failed + 1))
+    echo "programs.sh: only $passed checks were made"
+}
 echo "programs.sh: $passed held, $failed did not"
 [ $failed = 0 ]
