@@ -20,28 +20,30 @@ pub struct Account {
     pub reason: String,
 }
 
-/// The account of a refusal, or nothing where the text has no such line or fault.
+/// The account of a refusal, or nothing where no text, or not this one, is refused so: a wrong
+/// sheet must not be told as if it were a right one.
 pub fn account(refusal: &Refusal, text: &Text) -> Option<Account> {
     let number = refusal.number;
-    if refusal.line == 0 || number == 12 {
-        return Some(Account {
-            number,
-            place: if number == 12 {
-                Place::End
-            } else {
-                Place::Text
-            },
-            reason: reason(number).to_owned(),
-        });
-    }
-    let line = text.line(refusal.line.into())?;
+    let line = usize::from(refusal.line);
+    let (place, reason) = match number {
+        0 => return None,
+        1 | 14 if line == 0 => (Place::Text, reason(number).to_owned()),
+        1 | 14 => return None,
+        12 if text.next_line() == Some(line) => (Place::End, reason(number).to_owned()),
+        12 => return None,
+        _ => {
+            let line = text.line(line)?;
+            let reason = match number {
+                2 => faults(&line)?,
+                _ => reason(number).to_owned(),
+            };
+            (Place::Line(line.number), reason)
+        }
+    };
     Some(Account {
         number,
-        place: Place::Line(line.number),
-        reason: match number {
-            2 => faults(&line)?,
-            _ => reason(number).to_owned(),
-        },
+        place,
+        reason,
     })
 }
 
@@ -126,6 +128,22 @@ mod tests {
                 "the line has a character other than 0-9 a-f (code 0d, place 3), \
                  has an odd number of characters and lacks its line feed",
             ),
+            (
+                "1\x1f\n",
+                "the line has a character other than 0-9 a-f (code 1f, place 2)",
+            ),
+            (
+                " 1\n",
+                "the line has a character other than 0-9 a-f (' ', place 1)",
+            ),
+            (
+                "1~\n",
+                "the line has a character other than 0-9 a-f ('~', place 2)",
+            ),
+            (
+                "1\x7f\n",
+                "the line has a character other than 0-9 a-f (code 7f, place 2)",
+            ),
         ] {
             assert_eq!(
                 told(2, 1, text),
@@ -152,5 +170,37 @@ mod tests {
         assert_eq!(told(12, 2, "010101000000\n").unwrap().0, Place::End);
         let unknown = "for a reason that this program does not know";
         assert_eq!(told(99, 1, "10\n").unwrap().1, unknown);
+    }
+
+    #[test]
+    fn a_refusal_that_no_such_text_has_is_not_told() {
+        for (number, line, text) in [
+            (0, 0, "10\n"),
+            (0, 1, "10\n"),
+            (1, 1, "10\n"),
+            (14, 1, "10\n"),
+            (2, 0, "1x\n"),
+            (9, 0, "10\n"),
+            (13, 0, "10\n"),
+            (99, 0, "10\n"),
+            (9, 2, "10\n"),
+            (12, 0, "010101000000\n"),
+            (12, 1, "010101000000\n"),
+            (12, 3, "010101000000\n"),
+            (12, 1, ""),
+            // A last line that lacks its line feed is refused 2, and never 12.
+            (12, 2, "010101000000\n11"),
+            (12, 3, "010101000000\n11"),
+            // In a source the lines count that its plan has.
+            (12, 4, "# x\n010101000000\n11\n"),
+        ] {
+            assert_eq!(
+                told(number, line, text),
+                None,
+                "{number} at {line}: {text:?}"
+            );
+        }
+        let source = "# x\n010101000000\n11";
+        assert_eq!(told(12, 3, source).unwrap().0, Place::End);
     }
 }

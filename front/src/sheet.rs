@@ -75,6 +75,31 @@ impl Sets {
     pub fn nothing_sent(&self) -> bool {
         self.sent.is_empty()
     }
+
+    /// Whether a breach is one: the higher level may send the handle on the channel, and the lower
+    /// may receive it there. The outside ranks with nobody.
+    fn have(&self, breach: &Breach) -> bool {
+        let Breach {
+            higher,
+            lower,
+            channel,
+            handle,
+        } = *breach;
+        LEVELS.contains(&higher)
+            && lower < higher
+            && self.may_send(higher, channel, handle)
+            && self.may_receive(lower, channel, handle)
+    }
+
+    /// Whether there is any breach.
+    fn have_any_breach(&self) -> bool {
+        self.sent.iter().any(|(&(higher, channel), sent)| {
+            LEVELS.contains(&higher)
+                && (0..higher)
+                    .filter_map(|lower| self.received.get(&(lower, channel)))
+                    .any(|received| sent & received != 0)
+        })
+    }
 }
 
 /// Whether a set has a channel.
@@ -83,7 +108,8 @@ fn has(bits: Bits, channel: u8) -> bool {
 }
 
 /// The sheet that a program's output is, if it is one: every line in its place and well formed, and
-/// the verdict of one mind with the last line.
+/// the verdict of one mind with the last line and with the sets. So a program that has gone wrong is
+/// not believed where its own sets belie its verdict.
 pub fn parse(output: &[u8]) -> Option<Sheet> {
     let mut lines: Vec<&[u8]> = output
         .strip_suffix(b"\n")?
@@ -100,13 +126,14 @@ pub fn parse(output: &[u8]) -> Option<Sheet> {
     let [count, between @ .., verdict] = frames.as_slice() else {
         return None;
     };
-    if count.len() != 3 || count[0] != 0x2f {
+    // The last round adds nothing, and it counts: there is always one.
+    if count.len() != 3 || count[0] != 0x2f || count[1..] == [0, 0] {
         return None;
     }
     let sets = sets(between)?;
     match (phrase, verdict.as_slice()) {
-        (b"flow clear", [0x30, 0x01]) => Some(Sheet::Clear(sets)),
-        (b"flow breach", [0x30, 0x00, named @ ..]) => breach(named).map(Sheet::Breach),
+        (b"flow clear", [0x30, 0x01]) if !sets.have_any_breach() => Some(Sheet::Clear(sets)),
+        (b"flow breach", [0x30, 0x00, named @ ..]) => breach(named, &sets).map(Sheet::Breach),
         _ => None,
     }
 }
@@ -141,24 +168,18 @@ fn has_sets(level: u8, channel: u8) -> bool {
     (LEVELS.contains(&level) || level == OUTSIDE) && channel < CHANNELS
 }
 
-/// What the bytes after a no's number name.
-fn breach(named: &[u8]) -> Option<Breach> {
-    match *named {
-        [higher, lower, channel, handle]
-            if LEVELS.contains(&higher)
-                && LEVELS.contains(&lower)
-                && channel < CHANNELS
-                && handle < CHANNELS =>
-        {
-            Some(Breach {
-                higher,
-                lower,
-                channel,
-                handle,
-            })
-        }
-        _ => None,
-    }
+/// The breach that the bytes after a no's number name, if the sets have it.
+fn breach(named: &[u8], sets: &Sets) -> Option<Breach> {
+    let [higher, lower, channel, handle] = *named else {
+        return None;
+    };
+    let breach = Breach {
+        higher,
+        lower,
+        channel,
+        handle,
+    };
+    sets.have(&breach).then_some(breach)
 }
 
 /// The refusal that the one frame of a refused plan's sheet gives.
@@ -206,10 +227,14 @@ mod tests {
             channel: 17,
             handle: 29,
         };
-        assert_eq!(
-            parsed(&["2f0001", "30000503111d", "flow breach"]),
-            Some(Sheet::Breach(named))
-        );
+        let lines = [
+            "2f0100",
+            "21031120000000",
+            "22051120000000",
+            "30000503111d",
+            "flow breach",
+        ];
+        assert_eq!(parsed(&lines), Some(Sheet::Breach(named)));
         let number = 16;
         let line = 0x0104;
         assert_eq!(
@@ -234,8 +259,10 @@ mod tests {
             &["2f0001", "300001000001", "flow clear"],
             &["2f0001", "300001000001", "300001000001", "flow breach"],
             &["2f0001", "3000010000", "flow breach"],
-            &["2f0001", "300007000001", "flow breach"],
-            &["2f0001", "300001000020", "flow breach"],
+            &["2f0000", "3001", "flow clear"],
+            &["2f", "3001", "flow clear"],
+            &["2f000001", "3001", "flow clear"],
+            &["2e0001", "3001", "flow clear"],
             &["3f020002", "flow clear"],
             &["3f0200", "refused"],
             &["3f020002", "3f020002", "refused"],
@@ -272,5 +299,77 @@ mod tests {
         }
         assert_eq!(parse(b"2f0001\n3001\nflow clear"), None);
         assert_eq!(parse(b""), None);
+    }
+
+    /// Sets with one breach: level 5 may send handle 29 on channel 17, where level 3 may receive it.
+    /// All around it is nearly one: level 3 may receive 28 too, level 5 may send 27 too, levels that
+    /// are not lower and the outside may receive 29, and level 3 and the outside may send it. On
+    /// channel 18 it may only be sent, and on channel 19 only received.
+    const DOWN: [&str; 10] = [
+        "21031130000000",
+        "21031320000000",
+        "21051120000000",
+        "21061120000000",
+        "21071130000000",
+        "22031120000000",
+        "22051128000000",
+        "22051220000000",
+        "22071128000000",
+        "22071228000000",
+    ];
+
+    #[test]
+    fn a_no_names_what_the_sets_have() {
+        let told = |verdict: &str| {
+            let lines = [&["2f0002"][..], &DOWN, &[verdict, "flow breach"]].concat();
+            parsed(&lines).is_some()
+        };
+        assert!(told("30000503111d"));
+        for (verdict, wrong) in [
+            ("30000703111d", "the higher is the outside"),
+            ("30000803111d", "the higher is no level"),
+            ("30000403111d", "the higher sends nothing"),
+            ("30000305111d", "the two are swapped"),
+            ("30000505111d", "the lower is as high"),
+            ("30000506111d", "the lower is higher"),
+            ("30000507111d", "the lower is the outside"),
+            ("30000523111d", "the lower is no level"),
+            ("30000502111d", "the lower receives nothing"),
+            ("30000503121d", "the channel is one where it is only sent"),
+            (
+                "30000503131d",
+                "the channel is one where it is only received",
+            ),
+            ("30000503141d", "the channel is one where nothing goes"),
+            ("30000503311d", "the channel is none"),
+            ("30000503111b", "the handle is only sent"),
+            ("30000503111c", "the handle is only received"),
+            ("30000503111a", "the handle is neither"),
+            ("30000503113d", "the handle is none"),
+        ] {
+            assert!(!told(verdict), "{wrong}");
+        }
+    }
+
+    #[test]
+    fn a_yes_has_no_breach_in_its_sets() {
+        let clear = |sets: &[&str]| {
+            let lines = [&["2f0002"][..], sets, &["3001", "flow clear"]].concat();
+            parsed(&lines).is_some()
+        };
+        assert!(!clear(&DOWN));
+        for (received, sent, possible) in [
+            ("21000000000001", "22010000000001", false),
+            ("21051f80000001", "22061f80000000", false),
+            ("21001f80000000", "22061f80000001", false),
+            ("21000000000001", "22010000000002", true),
+            ("21000000000001", "22010100000001", true),
+            ("21010000000001", "22010000000001", true),
+            ("21010000000001", "22000000000001", true),
+            ("21000000000001", "22070000000001", true),
+            ("21070000000001", "22000000000001", true),
+        ] {
+            assert_eq!(clear(&[received, sent]), possible, "{received} {sent}");
+        }
     }
 }

@@ -69,6 +69,13 @@ impl Text {
         self.lines().nth(number.checked_sub(1)?)
     }
 
+    /// The number of the line that would come next; nothing where a line is still unended or there
+    /// is none at all.
+    pub fn next_line(&self) -> Option<usize> {
+        let (last, next) = self.lines().zip(2..).last()?;
+        last.ended.then_some(next)
+    }
+
     /// The lines of the plan's text.
     fn lines(&self) -> impl Iterator<Item = Line> + '_ {
         let written = match self.form {
@@ -196,6 +203,56 @@ mod tests {
             (b"# nothing", b""),
         ] {
             assert_eq!(plan_of(written, Some(Form::Source)), plan);
+        }
+    }
+
+    #[test]
+    fn each_byte_of_a_source_is_kept_dropped_or_lowered() {
+        // Within a line, what takes the place of the byte, and what it leaves of the rest.
+        for byte in 0..=u8::MAX {
+            let wanted = match byte {
+                b'\n' => b"1\n0\n".to_vec(),
+                b'#' => b"1\n".to_vec(),
+                b' ' | b'\t' => b"10\n".to_vec(),
+                b'A' => b"1a0\n".to_vec(),
+                b'B' => b"1b0\n".to_vec(),
+                b'C' => b"1c0\n".to_vec(),
+                b'D' => b"1d0\n".to_vec(),
+                b'E' => b"1e0\n".to_vec(),
+                b'F' => b"1f0\n".to_vec(),
+                _ => vec![b'1', byte, b'0', b'\n'],
+            };
+            let written = [b'1', byte, b'0', b'\n'];
+            assert_eq!(plan_of(&written, Some(Form::Source)), wanted, "{byte:02x}");
+        }
+        // Alone on a line, and at a line's end: there a carriage return goes as well.
+        for byte in 0..=u8::MAX {
+            let kept = match byte {
+                b'\n' | b'\r' | b'#' | b' ' | b'\t' => None,
+                b'A'..=b'F' => Some(byte + 0x20),
+                _ => Some(byte),
+            };
+            let alone: Vec<u8> = kept.into_iter().flat_map(|byte| [byte, b'\n']).collect();
+            let ending: Vec<u8> = [b'1'].into_iter().chain(kept).chain([b'\n']).collect();
+            let source = Some(Form::Source);
+            assert_eq!(plan_of(&[byte, b'\n'], source), alone, "{byte:02x}");
+            assert_eq!(plan_of(&[b'1', byte, b'\n'], source), ending, "{byte:02x}");
+            assert_eq!(plan_of(&[b'1', byte], source), ending, "{byte:02x}");
+        }
+    }
+
+    #[test]
+    fn a_line_comes_next_where_the_last_is_ended() {
+        for (written, form, next) in [
+            (&b""[..], Form::Plan, None),
+            (b"\n", Form::Plan, Some(2)),
+            (b"11\n10\n", Form::Plan, Some(3)),
+            (b"11\n10", Form::Plan, None),
+            (b"#\n11\n\n10", Form::Source, Some(3)),
+            (b"#\n", Form::Source, None),
+        ] {
+            let text = Text::new(written.to_vec(), Some(form));
+            assert_eq!(text.next_line(), next, "{written:?}");
         }
     }
 
