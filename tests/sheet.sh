@@ -10,5 +10,9 @@ trap 'rm -rf "$work"' EXIT
 . tests/sheet_calls.sh
 . tests/sheet_trouble.sh
 
+# Fewer than this, and a part of these tests has got lost. Whoever adds to them raises it. Some need a device that need not be there.
+least=421
+[ ! -e /dev/full ] || least=432
 echo "sheet.sh: $passed held, $failed did not"
-[ $failed = 0 ]
+[ $((passed + failed)) -ge $least ] || echo "sheet.sh: at least $least have to be tried"
+[ $failed = 0 ] && [ $passed -ge $least ]

@@ -116,6 +116,34 @@ true_that 'one is at work' await [ -e "$work/begun" ]
 expect 'after one that was killed' 0 "$work/clear" false_sheet "$work/plan"
 expect 'after one that was killed, no clash' 0 "$work/nothing" cat "$work/clashes"
 
+# Who waits for standard input lets others ask: it is read before the lock is taken. The text is far more than a pipe holds, so that the reader is
+# at it once all is written; then it waits for the end, which comes after the other's answer.
+toolchain "$well"
+program "$clear"
+mkfifo "$work/open"
+for words in - '--each -'; do
+    rm -f "$work/ended"
+    # shellcheck disable=SC2086
+    false_sheet $words <"$work/open" >"$work/out.1" 2>"$work/err.1" &
+    asked=$!
+    exec 8>"$work/open"
+    cat "$work/longer" >&8
+    {
+        false_sheet "$work/plan" >"$work/out.2" 2>"$work/err.2"
+        echo $? >"$work/ended"
+    } 8>&- &
+    other=$!
+    true_that "another answers while ./sheet $words waits for its input" await [ -s "$work/ended" ]
+    exec 8>&-
+    wait $asked
+    true_that "./sheet $words answers after all" [ $? = 0 ]
+    wait $other
+    lines 0 >"$work/both"
+    expect "the status of the other of ./sheet $words" 0 "$work/both" cat "$work/ended"
+    expect "the answer to the other of ./sheet $words" 0 "$work/clear" cat "$work/out.2"
+    expect "the other of ./sheet $words was not kept waiting" 0 "$work/nothing" cat "$work/err.2"
+done
+
 # One check for many plans.
 toolchain "$well"
 program "$clear"
@@ -157,6 +185,23 @@ no_sheet 2f0001 3001 'flow clear' 'flow clear'
 no_sheet 2f0001 3001 'flow clear '
 no_sheet 2f0001 200000000000 3001 'flow clear'
 no_sheet 2f0001 22000000000001 21000000000001 3001 'flow clear'
+# A sheet that can't be: no rounds; a yes with a breach in its sets; a no whose levels do not go down, or whose handle is not in both sets.
+no_sheet 2f0000 3001 'flow clear'
+no_sheet 2f0004 21000100000004 22010100000004 3001 'flow clear'
+no_sheet 2f0004 21050180000000 22060180000001 3001 'flow clear'
+no_sheet 2f0004 21000100000004 22000100000004 300000000102 'flow breach'
+no_sheet 2f0004 21010100000004 22000100000004 300000010102 'flow breach'
+no_sheet 2f0004 21000100000004 22070100000004 300007000102 'flow breach'
+no_sheet 2f0004 21000100000008 22010100000004 300001000102 'flow breach'
+no_sheet 2f0004 21000100000004 22010100000008 300001000102 'flow breach'
+no_sheet 2f0004 21000100000004 22010100000004 300001000202 'flow breach'
+no_sheet 2f0004 300001000102 'flow breach'
+# Without the fault they are sheets.
+lines 2f0004 21000100000004 22000100000004 3001 'flow clear' >"$work/both"
+program "cat '$work/both'"
+expect 'a yes whose sets have no breach' 0 "$work/both" false_sheet "$work/plan"
+lines 2f0004 21000100000004 22010100000004 300001000102 'flow breach' >"$work/both"
+expect 'a no whose sets have its breach' 1 "$work/both" false_sheet "$work/plan"
 # unfitting OPTION LINE..: a program that prints this gives a sheet of another plan.
 unfitting() {
     option=$1
@@ -167,14 +212,46 @@ unfitting() {
 }
 unfitting --plan 3f090003 refused
 unfitting --plan 3f020002 refused
+# A refusal that can't be: number 0; no line where there is one, or a line where there is none; an end elsewhere than behind the last line.
+unfitting --plan 3f000000 refused
+unfitting --plan 3f000001 refused
+unfitting --plan 3f010001 refused
+unfitting --plan 3f0e0001 refused
+unfitting --plan 3f020000 refused
+unfitting --plan 3f030000 refused
+unfitting --plan 3f0d0000 refused
+unfitting --plan 3f0c0000 refused
+unfitting --plan 3f0c0002 refused
+unfitting --plan 3f0c0004 refused
+unfitting --words 3f0c0002 refused
+lines 3f0c0003 refused >"$work/both"
+program "cat '$work/both'"
+expect 'an end behind the last line' 2 "$work/both" false_sheet "$work/plan"
+# A last line that lacks its line feed is refused 2, and never 12; nor is a text that has no line.
+printf '010101000000\n11' >"$work/plan"
+unfitting --plan 3f0c0002 refused
+unfitting --plan 3f0c0003 refused
+: >"$work/plan"
+unfitting --plan 3f0c0001 refused
+lines "$work/plan: trouble: the sheet does not fit the plan" >"$work/both"
+expect 'a refusal that can not be, among many' 3 "$work/both" false_sheet --each "$work/plan"
 lines 010101000000 15 10 >"$work/plan"
 unfitting --words 2f0001 3001 'flow clear'
 program "$(printing 3f630003 refused)"
 lines 3f630003 refused 'The plan is refused at line 3: for a reason that this program does not know (refusal 99).' >"$work/both"
 expect 'an unknown refusal' 2 "$work/both" false_sheet --words "$work/plan"
 
-# A clone that can't be written: rt would go by its old log, and is not asked.
+# A clone that can't be written: rt would go by its old log, and is not asked. Each folder that rt writes in is tried.
 program "$clear"
+toolchain "$well"
+for folder in target target/log target/stamp target/rlib target/obj target/bin; do
+    mkdir "$clone/$folder/.writable"
+    expect "no writing in $folder" 3 "$work/nothing" false_sheet "$work/plan"
+    hints "^sheet: this clone can't be written, so nothing is proved in it: $folder: "
+    rmdir "$clone/$folder/.writable"
+done
+expect 'rt is not asked where it can not write' 0 "$work/nothing" cat "$work/checks"
+expect 'once it can' 0 "$work/clear" false_sheet "$work/plan"
 toolchain "$well"
 mkdir "$clone/target/log/plan.out"
 expect 'a log that rt has no right to' 3 "$work/nothing" false_sheet "$work/plan"

@@ -28,8 +28,8 @@ The program is proved and built first where its source has changed. Without FILE
 where FILE is -, the plan is read from standard input.
 
   --words     after the sheet, say in sentences what it says
-  --source    the text is a source: its remarks (# to the line's end), blanks and
-              carriage returns are left out, and A-F count as a-f
+  --source    the text is a source: its remarks (# to the line's end), blanks, tabs and a
+              carriage return at a line's end are left out, and A-F count as a-f
   --plan      the text is a plan's text, taken strictly
   --each      one line for each FILE: its name, and the verdict or the refusal
   --help      this text
@@ -106,6 +106,7 @@ fn one(root: &Path, words: bool, form: Option<Form>, input: &Input) -> Result<St
         message_about(&input.name(), &what);
         Status::Trouble
     };
+    // All is read before the lock is taken, so that nobody waits for what this waits for.
     let text = match input.read() {
         Ok(written) => Text::new(written, form),
         Err(what) => return Ok(about(what)),
@@ -135,7 +136,7 @@ fn one(root: &Path, words: bool, form: Option<Form>, input: &Input) -> Result<St
 
 /// Prints a line for each of many plans; its status is the worst of theirs.
 fn each(root: &Path, form: Option<Form>, inputs: &[Input]) -> Result<Status, String> {
-    // All is read before the lock is taken, so that nobody waits for what this waits for.
+    // As for one: read first, and then take the lock.
     let texts: Vec<Result<Text, String>> = inputs
         .iter()
         .map(|input| Ok(Text::new(input.read()?, form)))

@@ -72,7 +72,11 @@ mod tests {
 
     #[test]
     fn a_name_stays_on_its_line_and_keeps_its_bytes() {
-        let name = OsString::from_vec(b"a b\xff\n\x1b[c".to_vec());
-        assert_eq!(Input::called(name).word(), b"a b\xff??[c");
+        let input = Input::called(OsString::from_vec(b"a b\xff\n\x1b[c".to_vec()));
+        assert_eq!(input.word(), b"a b\xff??[c");
+        assert_eq!(input.name(), b"a b\xff??[c");
+        let standard = Input::called("-".into());
+        assert_eq!(standard.word(), b"-");
+        assert_eq!(standard.name(), b"standard input");
     }
 }
