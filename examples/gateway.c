@@ -3,7 +3,7 @@
      cc -std=c11 -O2 -o gateway examples/gateway.c target/staticlib/libgateway.a
      ./gateway [ALLOWANCE]     ALLOWANCE is the rounds allowed, 0 to 65,535; without it, as many as any plan needs
 
-   Exit status 0 if each try was as the header says. */
+   Exit status 0 if each try was as the header says, 1 if not, 2 if the words are no allowance. */
 #include "gateway.h"
 
 #include <stdio.h>

@@ -4,8 +4,9 @@
      ./threads FILE..
 
    Each plan is asked in a thread that has HJALTROPA_STACK bytes of stack and below them a page that nobody may touch, again and again until all
-   have been asked many times, and each time the sheet has to be the one that it had when no other plan was asked. Before that the stack which a call takes is measured, in a thread
-   with plenty of it; it has to leave a quarter of itself free below HJALTROPA_STACK. Exit status 0 if all this was so. */
+   have been asked many times, and each time the sheet has to be the one that it had when no other plan was asked. Before that the stack which a
+   call takes is measured, in a thread with plenty of it; it has to leave a quarter of itself free below HJALTROPA_STACK. Exit status 0 if all
+   this was so. */
 #define _DEFAULT_SOURCE
 #include "gateway.h"
 

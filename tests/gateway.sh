@@ -4,6 +4,8 @@
 # The library is for x86-64 programs. On another processor the callers in C are tried if there is a compiler for x86-64, apart from the one with
 # threads, and those in other languages are not; the last line says what was tried. A compiler that is there has to work.
 set -eu
+# Cargo's own folders are meant below, whatever the caller's settings are: a second program of another day must not be asked.
+unset CARGO_TARGET_DIR CARGO_BUILD_TARGET_DIR CARGO_BUILD_TARGET
 work=$(mktemp -d)
 trap 'rm -rf "$work"' EXIT
 
@@ -25,6 +27,11 @@ same() {
     [ -n "$2" ] && [ "$2" = "$3" ] || fail "$1: '$2' and '$3'"
 }
 
+# in_one_line FILE: all its words with one blank between each two, wherever the lines end.
+in_one_line() {
+    tr '\n' ' ' <"$1" | tr -s ' '
+}
+
 # What the callers declare is what the definitions say.
 declared() {
     sed -n "s/^#define HJALTROPA_$1 \([0-9]*\)\$/\1/p" examples/gateway.h
@@ -41,6 +48,8 @@ same 'the rounds in Rust' "$(declared_in_rust ROUNDS)" "$rounds"
 same 'the longest sheet in C' "$(declared SHEET)" "$(defined longestSheet sheet/specs/Write.antt)"
 same 'the longest sheet in Rust' "$(declared_in_rust SHEET)" "$(defined longestSheet sheet/specs/Write.antt)"
 same 'the longest text in C' "$(declared TEXT)" "$(defined longest */specs/Limits.antt)"
+kibibytes=$(in_one_line README.md | sed -n 's/.* how much stack a call needs (\([0-9]*\) KiB suffice: .*/\1/p')
+same 'the stack in C, and the README in KiB' "$(declared STACK)" "$((${kibibytes:-0} * 1024))"
 grep -qF 'pub extern "C" fn hjaltropa_sheet(text: &[u8], allowance: u16, buffer: &mut [u8]) -> usize' crates/gateway/src/lib.rt ||
     fail 'the function has other parameters than the callers declare'
 grep -qxF 'size_t hjaltropa_sheet(const uint8_t *text, size_t text_length, uint16_t allowance, uint8_t *buffer, size_t buffer_length);' \
@@ -49,9 +58,16 @@ tr -d ' \n' <examples/gateway.rs |
     grep -qF 'fnhjaltropa_sheet(text:*constu8,text_length:usize,allowance:u16,buffer:*mutu8,buffer_length:usize,)->usize;' ||
     fail 'the declaration in Rust is another'
 
+# What the header promises in words: the tests below try it, and callers go by it.
+promises() {
+    in_one_line examples/gateway.h | grep -qF "$1" || fail "the header does not say: $1"
+}
+promises 'Where the buffer is as long or longer, the sheet stands at its start and nothing past it is changed; where it is shorter, nothing of it is changed.'
+promises 'It may be called from several threads at once, with a buffer for each: it keeps nothing from one call to the next, has no data of its own that changes, and calls nothing but memcpy and memset.'
+
 quietly rt staticlib gateway
 library=target/staticlib/libgateway.a
-quietly cargo build --release --offline --manifest-path second/Cargo.toml
+quietly cargo build --release --offline --manifest-path second/Cargo.toml --target-dir second/target
 second=second/target/release/second
 
 machine=$(uname -m)
@@ -145,6 +161,8 @@ plan_and_zeros() {
 }
 plan P1 010101000000 10
 plan P2 010102010102 020000 020101 15 1901 120001 10 1900 13000200 10
+# A breach whose levels, channel and handle all differ, so that none can stand for another.
+plan differing 010120010602 020011 02011d 15 1905 120001 10 1903 13000200 10
 plan P6 010103040203 020000 020101 020202 18 15 1900 120001 120001 120102 10 15 1901 13000300 120303 10 1902 13000401 13040502 14 170405 \
     120400 10 13040603 10
 : >"$work/P10.plan"
@@ -178,7 +196,7 @@ cp examples/keeps.plan examples/breaks.plan second/tests/plans/relay.plan "$work
 plan_and_zeros longest_text 16384
 plan_and_zeros longer_text 16385
 plan_and_zeros long_text 100000
-answered='P1 P2 P6 keeps breaks relay longest deep most_nodes'
+answered='P1 P2 P6 differing keeps breaks relay longest deep most_nodes'
 refused='P10 unended closed names deeper more_nodes longest_text longer_text long_text'
 
 # The second program's sheets are those that are known, and the plans are what they are meant to be.
@@ -207,8 +225,47 @@ first longer_text 3f010000
 first long_text 3f010000
 same 'the length of the longest sheet' "$(wc -c <"$work/longest.sheet" | tr -d ' ')" "$(declared SHEET)"
 
+# reads NAME SENTENCE: what the header says of the last two lines of the sheet, each number in the place of its letters, is the sentence. A line of
+# the header has digits and letters as on the sheet (its first two are digits), then the phrase, then the sentence.
+reads() {
+    read=$(awk -v digits="$(tail -n 2 "$work/$1.sheet" | head -n 1)" -v phrase="$(tail -n 1 "$work/$1.sheet")" '
+        /^       3/ {
+            shape = $1
+            sentence = $0
+            sub(/^ *[^ ]* */, "", sentence)
+            if (length(shape) != length(digits) || index(sentence, phrase "  ") != 1) next
+            sub(/^.*   */, "", sentence)
+            split("", value)
+            split("", token)
+            for (i = 1; i <= length(shape); i++) {
+                letter = substr(shape, i, 1)
+                digit = substr(digits, i, 1)
+                if (i <= 2 || letter ~ /[0-9]/) {
+                    if (letter != digit) next
+                } else {
+                    value[letter] = 16 * value[letter] + index("0123456789abcdef", digit) - 1
+                    token[letter] = token[letter] letter
+                }
+            }
+            count = split(sentence, word, " ")
+            line = ""
+            for (i = 1; i <= count; i++) {
+                comma = sub(/,$/, "", word[i]) ? "," : ""
+                for (letter in token) if (word[i] == token[letter]) word[i] = value[letter]
+                line = line (i == 1 ? "" : " ") word[i] comma
+            }
+            print line
+        }' examples/gateway.h)
+    same "the header on the sheet of $1" "$read" "$2"
+}
+reads P1 'no level may send a handle on a channel where a lower level may receive it'
+reads differing 'level 5 may send handle 29 on channel 17, where level 3, which is lower, may receive it'
+reads deeper 'there is no verdict: refusal 11 at line 98, which is 0 where no line is at fault'
+reads P10 'there is no verdict: refusal 1 at line 0, which is 0 where no line is at fault'
+
 # Buffers of all lengths, within no allowance, one round too few, just enough, and plenty; and the verdict.
 asked=0
+verdicts=0
 for name in $answered $refused; do
     allowances='none 0 1 17409 65535'
     case $(head -n 1 "$work/$name.sheet") in
@@ -241,23 +298,50 @@ for name in $answered $refused; do
     ./run "$work/ask" "$work/$name.plan" >"$work/out" || status=$?
     same "the status of ask on $name" $status $wanted
     same "the phrase of ask on $name" "$(sed 's/:.*//' "$work/out")" "$(tail -n 1 "$work/$name.sheet")"
+    verdicts=$((verdicts + 1))
     for header in $headers; do
         status=0
         ./run "$work/$header" <"$work/$name.plan" || status=$?
         same "a yes for $name, in the header's words, $header" $status $((wanted > 0))
+        verdicts=$((verdicts + 1))
     done
 done
 
-# asks STATUS LINE WORDS..: ask, with these words and the standard input at hand, exits so and prints the line; in trouble it prints none, and one
-# line on standard error.
+# Words that are no allowance: nothing is asked, and the usage is told.
+for word in 65536 99999999999999999999 x 1x -1 ''; do
+    for gateway in $gateways; do
+        status=0
+        ./run "$work/$gateway" "$word" <"$work/P1.plan" >"$work/out" 2>"$work/err" || status=$?
+        case $gateway in
+            in_c)
+                same "the status of $gateway with '$word'" $status 2
+                same "what $gateway says of '$word'" "$(cat "$work/err")" 'usage: gateway [ALLOWANCE]'
+                ;;
+            *)
+                [ $status != 0 ] || fail "$gateway takes '$word'"
+                grep -qF 'usage: gateway [ALLOWANCE]' "$work/err" || fail "$gateway does not say what is wrong with '$word'"
+                ;;
+        esac
+        [ ! -s "$work/out" ] || fail "$gateway answers '$word'"
+    done
+done
+status=0
+./run "$work/in_c" 1 2 <"$work/P1.plan" >"$work/out" 2>"$work/err" || status=$?
+same 'the status of in_c with two words' $status 2
+
+# asks STATUS LINE WORDS..: ask, with these words and the standard input at hand, exits so and prints the line and nothing else: on standard error in
+# trouble, and otherwise on standard output.
 asks() {
     wanted=$1 line=$2
     shift 2
     status=0
     ./run "$work/ask" "$@" >"$work/out" 2>"$work/err" || status=$?
     same "the status of ask $*" $status $wanted
-    [ "$(cat "$work/out")" = "$line" ] || fail "ask $* printed: $(cat "$work/out")"
-    same "the lines of ask $*" "$(cat "$work/out" "$work/err" | wc -l | tr -d ' ')" 1
+    told=$work/out silent=$work/err
+    [ $wanted != 3 ] || told=$work/err silent=$work/out
+    same "what ask $* prints" "$(cat "$told")" "$line"
+    [ ! -s "$silent" ] || fail "ask $* also printed: $(cat "$silent")"
+    verdicts=$((verdicts + 1))
 }
 asks 0 'flow clear' examples/keeps.plan
 asks 1 'flow breach: level 1 may send handle 2 on channel 1, where level 0 may receive it' - <examples/breaks.plan
@@ -265,32 +349,54 @@ asks 1 'flow breach: level 1 may send handle 2 on channel 1, where level 0 may r
 asks 2 'refused: number 11, line 98' "$work/deeper.plan"
 asks 2 'refused: number 13, line 3' "$work/longest_text.plan"
 asks 2 'refused: number 1, line 0' "$work/longer_text.plan"
-asks 3 '' "$work/none"
-asks 3 '' "$work"
-asks 3 '' examples/keeps.plan examples/breaks.plan
-asks 3 '' - <"$work"
+asks 3 "ask: the file can't be opened" "$work/none"
+asks 3 "ask: the plan can't be read" "$work"
+asks 3 'ask: usage: ask [FILE]' examples/keeps.plan examples/breaks.plan
+asks 3 "ask: the plan can't be read" - <"$work"
 if [ -e /dev/full ]; then
     status=0
     ./run "$work/ask" examples/keeps.plan >/dev/full 2>"$work/err" || status=$?
     same 'the status of ask where it can'\''t print' $status 3
 fi
 
-# Each gateway finds each fault of a library: the variable FAULT says what is done wrong after, or in, the proved call.
+# Each caller finds each fault of a library that it can see: the variable FAULT says what is done wrong before, in or after the proved call.
 cat >"$work/faults.c" <<'END'
 #include "gateway.h"
+#include <sched.h>
+#include <stdatomic.h>
 #include <stdlib.h>
 #include <string.h>
+static atomic_int inside;           /* calls that have begun and not ended */
+static _Thread_local unsigned calls; /* of this thread */
 size_t __real_hjaltropa_sheet(const uint8_t *text, size_t text_length, uint16_t allowance, uint8_t *buffer, size_t buffer_length);
 size_t __wrap_hjaltropa_sheet(const uint8_t *text, size_t text_length, uint16_t allowance, uint8_t *buffer, size_t buffer_length);
-size_t __wrap_hjaltropa_sheet(const uint8_t *text, size_t text_length, uint16_t allowance, uint8_t *buffer, size_t buffer_length) {
-    const char *fault = getenv("FAULT");
-    if (fault != NULL && strcmp(fault, "allowance") == 0) {
-        allowance = HJALTROPA_ROUNDS;
+/* The proved call, over so many bytes more of stack, which are all written. */
+static size_t deeper(size_t more, const uint8_t *text, size_t text_length, uint16_t allowance, uint8_t *buffer, size_t buffer_length) {
+    volatile uint8_t room[more];
+    for (size_t i = 0; i < more; i++) {
+        room[i] = 1;
     }
     size_t size = __real_hjaltropa_sheet(text, text_length, allowance, buffer, buffer_length);
+    return room[0] == 1 ? size : 0;
+}
+size_t __wrap_hjaltropa_sheet(const uint8_t *text, size_t text_length, uint16_t allowance, uint8_t *buffer, size_t buffer_length) {
+    const char *fault = getenv("FAULT");
     if (fault == NULL) {
-        return size;
+        abort();
     }
+    if (strcmp(fault, "allowance") == 0) {
+        allowance = HJALTROPA_ROUNDS;
+    }
+    if (strncmp(fault, "stack", 5) == 0) {
+        return deeper(strtoul(fault + 5, NULL, 10), text, text_length, allowance, buffer, buffer_length);
+    }
+    calls++;
+    int others = atomic_fetch_add(&inside, 1);
+    if (strcmp(fault, "crowd") == 0) {
+        sched_yield();
+    }
+    size_t size = __real_hjaltropa_sheet(text, text_length, allowance, buffer, buffer_length);
+    atomic_fetch_sub(&inside, 1);
     if (strcmp(fault, "before") == 0 && 0 < buffer_length) {
         buffer[-1] = 0;
     } else if (strcmp(fault, "behind") == 0 && size < buffer_length) {
@@ -307,6 +413,14 @@ size_t __wrap_hjaltropa_sheet(const uint8_t *text, size_t text_length, uint16_t 
         buffer[size - 2] = 'k';
     } else if (strcmp(fault, "over") == 0 && size <= buffer_length) {
         return size - 1;
+    } else if (strcmp(fault, "first") == 0 && calls == 4) {
+        buffer[0] ^= 1;
+    } else if (strcmp(fault, "last") == 0 && calls == 8) {
+        buffer[size - 1] ^= 1;
+    } else if (strcmp(fault, "less") == 0 && calls == 4) {
+        return size - 1;
+    } else if (strcmp(fault, "crowd") == 0 && 0 < others) {
+        buffer[size / 2] ^= 1;
     }
     return size;
 }
@@ -315,6 +429,7 @@ quietly $compiler -std=c11 $flags -c -o "$work/faults.o" "$work/faults.c"
 build faulty_in_c examples/gateway.c "$work/faults.o" -Wl,--wrap=hjaltropa_sheet
 [ "$gateways" = in_c ] || quietly rustc --edition 2021 -O -o "$work/faulty_in_rust" examples/gateway.rs -C link-arg="$work/faults.o" \
     -C link-arg="$library" -C link-arg=-Wl,--wrap=hjaltropa_sheet
+faults=0
 for gateway in $gateways; do
     for name in P2 longest; do
         for fault in none before behind outside short unwritten cut byte over allowance; do
@@ -330,8 +445,18 @@ for gateway in $gateways; do
                 none-no) ;;
                 *-no) fail "$gateway does not find the fault '$fault' on $name" ;;
             esac
+            faults=$((faults + 1))
         done
     done
+done
+
+# Ask takes nothing else for a verdict than what it knows.
+build faulty_ask examples/ask.c "$work/faults.o" -Wl,--wrap=hjaltropa_sheet
+for name in P1 differing P10; do
+    status=0
+    FAULT=byte ./run "$work/faulty_ask" "$work/$name.plan" >"$work/out" 2>"$work/err" || status=$?
+    same "the status of ask without a sheet, $name" $status 3
+    same "what ask says without a sheet, $name" "$(cat "$work/out" "$work/err")" 'ask: no sheet came back'
 done
 
 # Several threads, each with the stack that the header asks for.
@@ -351,6 +476,51 @@ if [ "$machine" = x86_64 ]; then
     }
     cmp "$work/out" "$work/wanted"
     threads="tried, and $(sed -n 's/^threads: //p' "$work/err")"
+
+    # The stack that the header says the deepest call took: no less than it takes here, and at most a twentieth more; and by that plan.
+    taken() {
+        sed -n 's/^threads: the deepest call took \([0-9]*\) bytes of stack$/\1/p' "$work/err"
+    }
+    measured=$(taken)
+    stated=$(in_one_line examples/gateway.h | sed -n 's/.* the deepest call in examples\/threads.c, a tree of depth 33, took \([0-9,]*\) with .*/\1/p' | tr -d ,)
+    [ -n "$measured" ] && [ -n "$stated" ] && [ "$measured" -le "$stated" ] && [ $((20 * stated)) -le $((21 * measured)) ] ||
+        fail "the header says that the deepest call took '$stated' bytes of stack, and here it took '$measured'"
+    ./run "$work/threads" "$work/deeper.plan" >"$work/out" 2>"$work/err"
+    same 'the stack for a tree of depth 33' "$(taken)" "$measured"
+
+    # A wrong byte or length in one call of many, the first or last byte, early and late; wrong bytes only where calls meet; and more stack, which
+    # HJALTROPA_STACK still holds, but without the margin. Alone, a plan is asked just as often as threads.c says.
+    build faulty_threads -pthread examples/threads.c "$work/faults.o" -Wl,--wrap=hjaltropa_sheet
+    # threads_find FAULT LINE FILE..: threads ends with status 1 and says this at last, or, where there is no line, with status 0.
+    threads_find() {
+        fault=$1 line=$2 wanted=1
+        shift 2
+        [ -n "$line" ] || wanted=0
+        status=0
+        FAULT=$fault ./run "$work/faulty_threads" "$@" >"$work/out" 2>"$work/err" || status=$?
+        [ $status = $wanted ] || fail "threads, with the fault '$fault': status $status for $wanted"
+        [ -z "$line" ] || same "what threads says of the fault '$fault'" "$(tail -n 1 "$work/err")" "threads: $line"
+        faults=$((faults + 1))
+    }
+    threads_find none '' "$work/P2.plan"
+    threads_find none '' "$@"
+    for fault in first last less; do
+        threads_find $fault 'a plan had another sheet while others were asked' "$work/P2.plan"
+    done
+    threads_find crowd '' "$work/P2.plan"
+    threads_find crowd 'a plan had another sheet while others were asked' "$@"
+    for fault in stack40000 stack100000; do
+        threads_find $fault 'HJALTROPA_STACK leaves no margin over that' "$@"
+    done
+    threads_find byte '' "$work/P2.plan"
+    ! cmp -s "$work/out" "$work/P2.sheet" || fail 'threads prints other sheets than the library gives'
 fi
 
-echo "gateway.sh: $asked sheets were as wanted: $gateways; C++: $cpp; threads: $threads"
+# Fewer than this, and a part of these tests has got lost. Whoever adds to them raises it.
+sheets_least=105 verdicts_least=47 faults_least=20
+[ "$machine" != x86_64 ] || sheets_least=210 faults_least=50
+[ "$cpp" = 'not tried' ] || verdicts_least=66
+[ $asked -ge $sheets_least ] && [ $verdicts -ge $verdicts_least ] && [ $faults -ge $faults_least ] ||
+    fail "only $asked of $sheets_least sheets, $verdicts of $verdicts_least verdicts and $faults of $faults_least faults were tried"
+
+echo "gateway.sh: $asked sheets, $verdicts verdicts and $faults faults were as wanted: $gateways; C++: $cpp; threads: $threads"
