@@ -477,13 +477,14 @@ if [ "$machine" = x86_64 ]; then
     cmp "$work/out" "$work/wanted"
     threads="tried, and $(sed -n 's/^threads: //p' "$work/err")"
 
-    # The stack that the header says the deepest call took: no less than it takes here, and at most a twentieth more; and by that plan.
+    # The stack that the header says the deepest call took is what it takes here, but for a twentieth, which is another C compiler's; and by
+    # that plan.
     taken() {
         sed -n 's/^threads: the deepest call took \([0-9]*\) bytes of stack$/\1/p' "$work/err"
     }
     measured=$(taken)
     stated=$(in_one_line examples/gateway.h | sed -n 's/.* the deepest call in examples\/threads.c, a tree of depth 33, took \([0-9,]*\) with .*/\1/p' | tr -d ,)
-    [ -n "$measured" ] && [ -n "$stated" ] && [ "$measured" -le "$stated" ] && [ $((20 * stated)) -le $((21 * measured)) ] ||
+    [ -n "$measured" ] && [ -n "$stated" ] && [ $((20 * measured)) -le $((21 * stated)) ] && [ $((20 * stated)) -le $((21 * measured)) ] ||
         fail "the header says that the deepest call took '$stated' bytes of stack, and here it took '$measured'"
     ./run "$work/threads" "$work/deeper.plan" >"$work/out" 2>"$work/err"
     same 'the stack for a tree of depth 33' "$(taken)" "$measured"
