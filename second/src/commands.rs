@@ -2,15 +2,17 @@
 
 use std::io::{self, BufWriter, Read, Write};
 
+use crate::answer::answer;
 use crate::drawing::Drawing;
 use crate::fuzz::fuzz;
+use crate::reach::reach;
 use crate::records;
 use crate::sheet::sheet;
 use crate::solving::AMPLE_ROUNDS;
 use crate::vectors::vectors;
 
 const USAGE: &str =
-    "use: second sheet [ALLOWANCE] | batch | records COUNT SEED | vectors | fuzz COUNT SEED PROGRAM [WORD ..]";
+    "use: second sheet [ALLOWANCE] | reach [ALLOWANCE] | batch | records COUNT SEED | vectors | fuzz COUNT SEED PROGRAM [WORD ..]";
 
 /// Runs the command that the words name. False means that sheets differed; an
 /// error is one line for the user, and nothing but a failed write or a failed
@@ -23,10 +25,11 @@ pub fn run(
     let words: Vec<&str> = words.iter().map(String::as_str).collect();
     let mut output = BufWriter::new(output);
     let same = match words[..] {
-        ["sheet"] => print_sheet(AMPLE_ROUNDS, input, &mut output)?,
-        ["sheet", allowance] => {
-            let allowance = number(allowance, u64::from(u16::MAX))? as u16;
-            print_sheet(allowance, input, &mut output)?
+        ["sheet", ref allowance @ ..] if allowance.len() < 2 => {
+            print_sheet(sheet, rounds(allowance)?, input, &mut output)?
+        }
+        ["reach", ref allowance @ ..] if allowance.len() < 2 => {
+            print_sheet(reach, rounds(allowance)?, input, &mut output)?
         }
         ["batch"] => print_batch(input, &mut output)?,
         ["records", count, seed] => {
@@ -44,23 +47,23 @@ pub fn run(
     Ok(same)
 }
 
-/// Prints the sheet of the text on the input.
+/// Prints the sheet, of one kind or the other, of the text on the input.
 fn print_sheet(
+    kind: fn(&[u8], u16) -> String,
     allowance: u16,
     input: &mut impl Read,
     output: &mut impl Write,
 ) -> Result<bool, String> {
-    let text = read_all(input)?;
-    let sheet = sheet(&text, allowance);
+    let sheet = kind(&read_all(input)?, allowance);
     output.write_all(sheet.as_bytes()).map_err(cannot_write)?;
     Ok(true)
 }
 
-/// Prints the sheets of all records on the input, if every record is good.
+/// Prints the answers to all records on the input, if every record is good.
 fn print_batch(input: &mut impl Read, output: &mut impl Write) -> Result<bool, String> {
     for record in records::parse(&read_all(input)?)? {
-        let sheet = sheet(&record.text, record.allowance);
-        output.write_all(sheet.as_bytes()).map_err(cannot_write)?;
+        let answer = answer(&record);
+        output.write_all(answer.as_bytes()).map_err(cannot_write)?;
     }
     Ok(true)
 }
@@ -94,6 +97,14 @@ fn print_fuzz(
     let tally = fuzz(count, seed, command, output)?;
     writeln!(output, "{} same, {} different", tally.same, tally.different).map_err(cannot_write)?;
     Ok(tally.different == 0)
+}
+
+/// The allowance of rounds that a word gives, the ample one without a word.
+fn rounds(words: &[&str]) -> Result<u16, String> {
+    match words.first() {
+        None => Ok(AMPLE_ROUNDS),
+        Some(word) => Ok(number(word, u64::from(u16::MAX))? as u16),
+    }
 }
 
 /// The number that a word of decimal digits gives, if it is not over the most.

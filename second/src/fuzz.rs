@@ -1,20 +1,22 @@
-//! Fuzzing: another program's sheets for random records, compared with the
-//! sheets that this one gives.
+//! Fuzzing: another program's answers to random records, each a sheet and its
+//! reach sheet, compared with the answers that this one gives.
 
 use std::io::{self, Read, Write};
 use std::process::{Child, ChildStdin, ChildStdout, Command, Stdio};
 use std::thread;
 
+use crate::answer::{answer, LONGEST_ANSWER};
 use crate::drawing::Drawing;
+use crate::reach;
 use crate::records::{self, Record};
-use crate::sheet::{sheet, LAST_LINES, LONGEST_SHEET};
+use crate::sheet;
 
 /// How many records one run of the program gets.
 const RECORDS_PER_RUN: u64 = 2_000;
 /// How many differences are shown whole.
 const SHOWN_DIFFERENCES: u64 = 5;
 
-/// How many records got the same sheet from both programs, and how many not.
+/// How many records got the same answer from both programs, and how many not.
 #[derive(Clone, Copy, Debug, Default, PartialEq, Eq)]
 pub struct Tally {
     pub same: u64,
@@ -34,10 +36,10 @@ pub fn fuzz(
     while tally.same + tally.different < count {
         let wanted = RECORDS_PER_RUN.min(count - tally.same - tally.different);
         let records: Vec<Record> = drawing.by_ref().take(wanted as usize).collect();
-        let answer = ask(command, &records)
+        let printed = ask(command, &records)
             .map_err(|error| format!("cannot run {}: {error}", command.join(" ")))?;
-        for (record, got) in records.iter().zip(split_sheets(&answer, records.len())) {
-            let expected = sheet(&record.text, record.allowance);
+        for (record, got) in records.iter().zip(split_answers(&printed, records.len())) {
+            let expected = answer(record);
             if got == expected.as_bytes() {
                 tally.same += 1;
                 continue;
@@ -54,7 +56,7 @@ pub fn fuzz(
 }
 
 /// What a command prints when it is fed the records. It may end early, and what
-/// it prints past the length of the longest possible answer is cut off. How it
+/// it prints past the length of the longest possible answers is cut off. How it
 /// ends is not judged, only what it prints.
 fn ask(command: &[&str], records: &[Record]) -> io::Result<Vec<u8>> {
     let (program, words) = command
@@ -65,15 +67,15 @@ fn ask(command: &[&str], records: &[Record]) -> io::Result<Vec<u8>> {
         .stdin(Stdio::piped())
         .stdout(Stdio::piped())
         .spawn()?;
-    let answer = match (child.stdin.take(), child.stdout.take()) {
+    let printed = match (child.stdin.take(), child.stdout.take()) {
         (Some(input), Some(output)) => exchange(&mut child, input, output, records),
         _ => Err(io::Error::other("no pipes to the program")),
     };
     child.wait()?;
-    answer
+    printed
 }
 
-/// Feeds the records from a thread of its own while the answer is read, so that
+/// Feeds the records from a thread of its own while the answers are read, so that
 /// neither side waits for the other for ever.
 fn exchange(
     child: &mut Child,
@@ -81,21 +83,21 @@ fn exchange(
     output: ChildStdout,
     records: &[Record],
 ) -> io::Result<Vec<u8>> {
-    let limit = records.len() * LONGEST_SHEET + 1;
-    let mut answer = Vec::new();
+    let limit = records.len() * LONGEST_ANSWER + 1;
+    let mut printed = Vec::new();
     thread::scope(|scope| {
         scope.spawn(move || feed(input, records));
-        let result = output.take(limit as u64).read_to_end(&mut answer);
-        if result.is_err() || answer.len() == limit {
+        let result = output.take(limit as u64).read_to_end(&mut printed);
+        if result.is_err() || printed.len() == limit {
             child.kill()?;
         }
         result
     })?;
-    Ok(answer)
+    Ok(printed)
 }
 
 /// Writes the records until all are written or the program takes no more; a
-/// program that ends early shows in its answer.
+/// program that ends early shows in what it prints.
 fn feed(input: ChildStdin, records: &[Record]) {
     let mut input = io::BufWriter::new(input);
     for record in records {
@@ -105,26 +107,34 @@ fn feed(input: ChildStdin, records: &[Record]) {
     }
 }
 
-/// The answer cut into as many sheets as asked for: each ends with the first
-/// line that is a fixed phrase, and the last has all that is left.
-fn split_sheets(answer: &[u8], count: usize) -> Vec<&[u8]> {
-    let mut sheets = Vec::new();
-    let mut rest = answer;
+/// What was printed cut into as many answers as asked for; the last has all that
+/// is left. The answers together are all that was printed, so a sheet that
+/// differs, is missing or is doubled makes at least one of them differ.
+fn split_answers(printed: &[u8], count: usize) -> Vec<&[u8]> {
+    let mut answers = Vec::new();
+    let mut rest = printed;
     for _ in 1..count {
-        let (sheet, after) = rest.split_at(first_sheet_length(rest));
-        sheets.push(sheet);
+        let (answer, after) = rest.split_at(first_answer_length(rest));
+        answers.push(answer);
         rest = after;
     }
-    sheets.push(rest);
-    sheets
+    answers.push(rest);
+    answers
 }
 
-/// The length of the answer's first sheet, or of all if no sheet ends in it.
-fn first_sheet_length(answer: &[u8]) -> usize {
+/// The length of the first answer, a sheet and the reach sheet behind it.
+fn first_answer_length(printed: &[u8]) -> usize {
+    let sheet = length_to(&sheet::LAST_LINES, printed);
+    sheet + length_to(&reach::LAST_LINES, &printed[sheet..])
+}
+
+/// The length up to the end of the first line that is one of the phrases, or of
+/// all if none is.
+fn length_to(phrases: &[&str], printed: &[u8]) -> usize {
     let mut length = 0;
-    for line in answer.split_inclusive(|byte| *byte == b'\n') {
+    for line in printed.split_inclusive(|byte| *byte == b'\n') {
         length += line.len();
-        let last = LAST_LINES
+        let last = phrases
             .iter()
             .any(|phrase| line.strip_suffix(b"\n") == Some(phrase.as_bytes()));
         if last {
@@ -146,8 +156,8 @@ fn show(
     writeln!(output, "record {number} differs")?;
     writeln!(output, "text, {length} bytes, allowance {allowance}:")?;
     writeln!(output, "{}", readable(&record.text))?;
-    writeln!(output, "expected sheet:\n{expected}")?;
-    writeln!(output, "got sheet:\n{}", readable(got))
+    writeln!(output, "expected sheets:\n{expected}")?;
+    writeln!(output, "got sheets:\n{}", readable(got))
 }
 
 /// The bytes as text: line feeds as they are, other odd bytes as escapes.

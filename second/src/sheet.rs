@@ -2,8 +2,9 @@
 
 use crate::frames::encode;
 use crate::judging::first_breach;
-use crate::reading::{read, Refusal};
-use crate::solving::{solve, Place, Set};
+use crate::outcome::{outcome, Outcome, Solved};
+use crate::reading::Refusal;
+use crate::solving::{Place, Set};
 
 /// The length in bytes that no sheet exceeds.
 pub const LONGEST_SHEET: usize = 8_128;
@@ -13,26 +14,30 @@ pub const LAST_LINES: [&str; 3] = [CLEAR, BREACH, REFUSED];
 
 const CLEAR: &str = "flow clear";
 const BREACH: &str = "flow breach";
-const REFUSED: &str = "refused";
+/// The phrase of a refusal, on the reach sheet too.
+pub const REFUSED: &str = "refused";
 
 /// The sheet of a text under an allowance of rounds.
 pub fn sheet(text: &[u8], allowance: u16) -> String {
-    answered(text, allowance).unwrap_or_else(refused)
+    sheet_of(&outcome(text, allowance))
 }
 
-/// The sheet of a plan that is answered, or the refusal (1 to 14).
-fn answered(text: &[u8], allowance: u16) -> Result<String, Refusal> {
-    let plan = read(text)?;
-    let (solution, count) = solve(&plan, allowance).ok_or(Refusal {
-        number: 14,
-        line: 0,
-    })?;
-    let [high, low] = count.to_be_bytes();
+/// The sheet of an outcome.
+pub fn sheet_of(outcome: &Outcome) -> String {
+    match outcome {
+        Ok(solved) => answered(solved),
+        Err(refusal) => refused(refusal),
+    }
+}
+
+/// The sheet of a plan that is answered.
+fn answered(solved: &Solved) -> String {
+    let [high, low] = solved.count.to_be_bytes();
     let mut sheet = encode(&[0x2f, high, low]);
-    for (place, set) in solution.sets() {
+    for (place, set) in solved.solution.sets() {
         sheet += &set_line(*place, set);
     }
-    let phrase = match first_breach(&plan.head, &solution) {
+    let phrase = match first_breach(&solved.head, &solved.solution) {
         None => {
             sheet += &encode(&[0x30, 0x01]);
             CLEAR
@@ -43,11 +48,11 @@ fn answered(text: &[u8], allowance: u16) -> Result<String, Refusal> {
             BREACH
         }
     };
-    Ok(sheet + phrase + "\n")
+    sheet + phrase + "\n"
 }
 
-/// The sheet of a refused plan.
-fn refused(refusal: Refusal) -> String {
+/// The sheet of a refused plan, and its reach sheet.
+pub fn refused(refusal: &Refusal) -> String {
     let [high, low] = refusal.line.to_be_bytes();
     encode(&[0x3f, refusal.number, high, low]) + REFUSED + "\n"
 }

@@ -1,5 +1,5 @@
 //! Vectors: the records that are stored beside the product's batch program,
-//! with this program's sheets for them.
+//! with this program's answers to them.
 
 use crate::drawing::Drawing;
 use crate::reading::{read, LONGEST_TEXT};
@@ -46,11 +46,42 @@ const KNOWN: &[&str] = &[
     "0A",
 ];
 
-/// Every record of the vectors: the known plans and the edges, each answered
-/// one under the allowances around its count too, then the random ones.
+/// Plans whose reach sheets tell much, a word for a line.
+const REACHING: &[&str] = &[
+    // A household outside every desk sends its handle, channel 2, to level 0,
+    // and level 1 does not get it; then level 0 hands it on to level 1.
+    "010103020102 020000 020101 15 160202 120002 10 \
+     15 1900 13000300 10 1901 13010401 10",
+    "010103020102 020000 020101 15 160202 120002 10 \
+     15 1900 13000300 120103 10 1901 13010401 10",
+    // Handles received on two channels, sent on the larger one first.
+    "010103010003 020000 020101 020202 15 120200 120100 120201 120202 120002 10 \
+     1900 15 13020300 10 15 13010300 10 13000300 10",
+    // The smaller channel is served only after the larger one was received on.
+    "010103020003 020000 020101 020202 15 120202 10 \
+     1900 13020300 15 120002 10 13000401 10",
+    // Channel 31 received on itself, at level 6.
+    "010120010601 02001f 15 120000 10 1906 13000100 10",
+    // Brackets in a bracket: the outer level has what the inner ones receive,
+    // and no inner one has what the outer or another inner one receives.
+    "010103010203 020000 020101 020202 15 120001 120102 120200 10 \
+     1901 15 1902 13000300 10 15 13010300 10 1900 13020300 10",
+    // Two levels that share a binder receive different handles.
+    "010102010102 020000 020101 15 120001 120100 10 \
+     15 1900 13000200 10 1901 13010200 10",
+    // Much is sent and nothing is received.
+    "010102010602 020000 020101 15 1906 120001 120101 10 \
+     170001 13000200 10",
+];
+
+/// Every record of the vectors: the known plans, those chosen for their reach
+/// sheets and the edges, each answered one under the allowances around its count
+/// too, then the random ones.
 pub fn vectors() -> Vec<Record> {
-    let known = KNOWN.iter().map(|words| text(words));
-    let texts = known.chain(edges()).chain([RELAY.to_vec()]);
+    let known = KNOWN.iter().chain(REACHING).map(|words| text(words));
+    let texts = known
+        .chain(edges())
+        .chain([longest_reach(), RELAY.to_vec()]);
     let around = texts.flat_map(|text| {
         let allowances = allowances(&text);
         allowances.into_iter().map(move |allowance| Record {
@@ -92,6 +123,36 @@ fn edges() -> Vec<Vec<u8>> {
 pub fn text(words: &str) -> Vec<u8> {
     let lines = words.split_whitespace().map(|word| format!("{word}\n"));
     lines.collect::<String>().into_bytes()
+}
+
+/// The plan with the longest reach sheet: handle h is sent on channel 31, then on
+/// 31 - h, and everything is received inside seven brackets, one in another, so
+/// that every level receives every handle.
+pub fn longest_reach() -> Vec<u8> {
+    let free: String = (0..32)
+        .map(|name| format!("02{name:02x}{name:02x} "))
+        .collect();
+    let sends = (0..32).map(|handle| {
+        let channel = 31 - handle;
+        format!("121f{handle:02x} 12{channel:02x}{handle:02x} 10 ")
+    });
+    let receives = (0..32).map(|channel| format!("13{channel:02x}2000 10 "));
+    let brackets: String = (0..7).map(|level| format!("19{level:02x} ")).collect();
+    let sends = side_by_side(&sends.collect::<Vec<String>>());
+    let receives = side_by_side(&receives.collect::<Vec<String>>());
+    text(&format!(
+        "010120010620 {free} 15 {sends} {brackets} {receives}"
+    ))
+}
+
+/// The words of the parts, of which there is at least one, joined by parallel
+/// nodes.
+fn side_by_side(parts: &[String]) -> String {
+    if let [part] = parts {
+        return part.clone();
+    }
+    let (first, second) = parts.split_at(parts.len() / 2);
+    "15 ".to_string() + &side_by_side(first) + &side_by_side(second)
 }
 
 /// The words of a tree of exactly so many nodes and of small depth.

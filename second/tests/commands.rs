@@ -12,6 +12,7 @@ use std::thread;
 const SECOND: &str = env!("CARGO_BIN_EXE_second");
 const NIL: &[u8] = b"010101000000\n10\n";
 const NIL_SHEET: &str = "2f0001\n3001\nflow clear\n";
+const NIL_REACH: &str = "reach complete\n";
 
 /// Held while a process starts or a script is written: a script that a starting
 /// process still holds open for writing can't be run.
@@ -68,6 +69,18 @@ fn script(name: &str, body: &str) -> String {
     path.to_str().expect("a plain path").to_string()
 }
 
+/// Writes a script that prints, in the place of each answer, what a statement of
+/// awk prints of its `sheet` and its `reach`; `n` is the record's number from 1.
+fn fake(name: &str, statement: &str) -> String {
+    let body = r#"SECOND batch | awk '
+        { lines = lines $0 "\n" }
+        /^(flow clear|flow breach|reach complete|refused)$/ {
+            if (behind) { n++; reach = lines; STATEMENT } else { sheet = lines }
+            behind = !behind; lines = ""
+        }'"#;
+    script(name, &body.replace("STATEMENT", statement))
+}
+
 /// The last line that a fuzz run prints, its exit status and all it prints.
 fn fuzz(count: &str, command: &[&str]) -> (String, Option<i32>, String) {
     let output = second(&[&["fuzz", count, "7"], command].concat(), b"");
@@ -87,7 +100,24 @@ fn sheet_prints_the_sheet() {
 }
 
 #[test]
-fn batch_prints_the_sheets_in_order() {
+fn reach_prints_the_reach_sheet() {
+    prints(&["reach"], NIL, NIL_REACH);
+    prints(&["reach", "1"], NIL, NIL_REACH);
+    prints(&["reach", "65535"], NIL, NIL_REACH);
+    prints(&["reach", "0"], NIL, "3f0e0000\nrefused\n");
+    prints(&["reach"], b"", "3f010000\nrefused\n");
+    prints(&["reach"], &vec![0; 100_000], "3f010000\nrefused\n");
+
+    let lines = "010102010102 020000 020101 15 1901 120001 10 1900 13000200 10 ";
+    let down = lines.replace(' ', "\n").into_bytes();
+    let reach = "23000100\n23070100\nreach complete\n";
+    prints(&["reach"], &down, reach);
+    prints(&["reach", "4"], &down, reach);
+    prints(&["reach", "3"], &down, "3f0e0000\nrefused\n");
+}
+
+#[test]
+fn batch_prints_both_sheets_of_each_record_in_order() {
     let first = [b"0000001000004401\n", NIL].concat();
     let second = [b"0000001000000000\n", NIL].concat();
     let third = b"0000000000000001\n".to_vec();
@@ -95,14 +125,18 @@ fn batch_prints_the_sheets_in_order() {
     let all = [first, second, third, fourth].concat();
     let sheets = [
         NIL_SHEET,
+        NIL_REACH,
+        "3f0e0000\nrefused\n",
         "3f0e0000\nrefused\n",
         "3f010000\nrefused\n",
+        "3f010000\nrefused\n",
+        "3f020001\nrefused\n",
         "3f020001\nrefused\n",
     ];
     prints(&["batch"], &all, &sheets.concat());
     prints(&["batch"], b"", "");
     let longest = [b"0001000000000001\n".to_vec(), vec![b'0'; 65_536]].concat();
-    prints(&["batch"], &longest, "3f010000\nrefused\n");
+    prints(&["batch"], &longest, &"3f010000\nrefused\n".repeat(2));
 }
 
 #[test]
@@ -144,14 +178,15 @@ fn batch_answers_every_record_that_records_writes() {
     let answer = second(&["batch"], &records);
     assert_eq!(answer.status.code(), Some(0));
     let printed = String::from_utf8_lossy(&answer.stdout).into_owned();
-    let phrases = ["flow clear", "flow breach", "refused"];
-    let sheets = printed.lines().filter(|line| phrases.contains(line));
-    assert_eq!(sheets.count(), 500);
+    let count = |phrase: &str| printed.lines().filter(|line| *line == phrase).count();
+    let answered = count("flow clear") + count("flow breach");
+    assert_eq!(count("reach complete"), answered);
+    assert_eq!(count("refused"), 2 * (500 - answered));
 }
 
 #[test]
 fn bad_words_are_refused() {
-    let bad: [&[&str]; 18] = [
+    let bad: [&[&str]; 26] = [
         &[],
         &[""],
         &["sheets"],
@@ -161,6 +196,14 @@ fn bad_words_are_refused() {
         &["sheet", "+1"],
         &["sheet", "65536"],
         &["sheet", "1", "2"],
+        &["sheet", "reach"],
+        &["reaches"],
+        &["reach", ""],
+        &["reach", "x"],
+        &["reach", "-1"],
+        &["reach", "+1"],
+        &["reach", "65536"],
+        &["reach", "1", "2"],
         &["batch", "1"],
         &["records"],
         &["records", "1"],
@@ -196,10 +239,88 @@ fn fuzz_shows_what_a_wrong_program_gives() {
     let wrong = script("wrong", "SECOND batch | sed 's/^2f0001$/2f0002/'");
     let (last, status, printed) = fuzz("200", &[&wrong]);
     assert!(!last.ends_with(" 0 different"), "{last}");
-    assert!(printed.contains("expected sheet:\n2f0001\n"));
-    assert!(printed.contains("got sheet:\n2f0002\n"));
+    assert!(printed.contains("expected sheets:\n2f0001\n"));
+    assert!(printed.contains("got sheets:\n2f0002\n"));
     assert_eq!(printed.matches(" differs\n").count(), 5);
     assert_eq!(status, Some(1));
+}
+
+#[test]
+fn fuzz_shows_reach_sheets_that_differ() {
+    let right = fake("right-reach", r#"printf "%s%s", sheet, reach"#);
+    let (last, status, _) = fuzz("200", &[&right]);
+    assert_eq!(last, "200 same, 0 different");
+    assert_eq!(status, Some(0));
+
+    let wrong = script("wrong-reach", "SECOND batch | sed 's/^23070000$/23070001/'");
+    let (last, status, printed) = fuzz("200", &[&wrong]);
+    assert!(!last.ends_with(" 0 different"), "{last}");
+    let (expected, got) = printed.split_once("got sheets:\n").expect("both");
+    assert!(expected.contains("\n23070000\n"));
+    assert!(got.contains("\n23070001\n"));
+    assert_eq!(status, Some(1));
+
+    // A line less, a line more, another phrase, another order of the sheets, and
+    // a sheet in the place of another.
+    let changes = [
+        r#"sub(/^23[^\n]*\n/, "", reach)"#,
+        r#"sub(/^23/, "2307ffff\n23", reach)"#,
+        r#"sub(/complete/, "Complete", reach)"#,
+        r#"sub(/reach complete/, "refused", reach)"#,
+        r#"sub(/refused/, "reach complete", reach)"#,
+        r#"mine = sheet; sheet = reach; reach = mine"#,
+        r#"mine = reach; reach = before; before = mine"#,
+        r#"reach = sheet"#,
+        r#"sheet = reach"#,
+    ];
+    for (number, change) in changes.iter().enumerate() {
+        let statement = format!(r#"{change}; printf "%s%s", sheet, reach"#);
+        let wrong = fake(&format!("wrong-reach-{number}"), &statement);
+        let (last, status, _) = fuzz("200", &[&wrong]);
+        assert!(!last.ends_with(" 0 different"), "{change}: {last}");
+        assert_eq!(status, Some(1), "{change}");
+    }
+}
+
+/// Of every record, of one that is answered, of one that is refused, and of the
+/// last one.
+#[test]
+fn fuzz_shows_sheets_that_are_missing_or_doubled() {
+    let chosen = [
+        "1",
+        "reach ~ /complete/ && !met++",
+        "reach ~ /refused/ && !met++",
+        "n == 200",
+    ];
+    let changes = [
+        r#"reach = """#,
+        "reach = reach reach",
+        r#"sheet = """#,
+        "sheet = sheet sheet",
+    ];
+    for (place, chosen) in chosen.iter().enumerate() {
+        for (kind, change) in changes.iter().enumerate() {
+            let statement = format!(r#"if ({chosen}) {{ {change} }}; printf "%s%s", sheet, reach"#);
+            let wrong = fake(&format!("uneven-{place}-{kind}"), &statement);
+            let (last, status, _) = fuzz("200", &[&wrong]);
+            assert!(!last.ends_with(" 0 different"), "{statement}: {last}");
+            assert_eq!(status, Some(1), "{statement}");
+        }
+    }
+}
+
+/// What is left of a run belongs to its last record, behind which no other shows
+/// that its reach sheet is missing or doubled.
+#[test]
+fn fuzz_judges_the_last_reach_sheet_of_a_run() {
+    for (name, change) in [("none", r#""""#), ("twice", "reach reach")] {
+        let statement = format!(r#"printf "%s%s", sheet, n == 100 ? {change} : reach"#);
+        let wrong = fake(&format!("last-{name}"), &statement);
+        let (last, status, printed) = fuzz("100", &[&wrong]);
+        assert_eq!(last, "99 same, 1 different", "{name}");
+        assert!(printed.starts_with("record 100 differs\n"), "{name}");
+        assert_eq!(status, Some(1), "{name}");
+    }
 }
 
 #[test]
@@ -209,7 +330,7 @@ fn fuzz_copes_with_programs_that_break_off_or_print_nonsense() {
     assert_eq!(last, "0 same, 2500 different");
     assert_eq!(status, Some(1));
 
-    let short = script("short", "SECOND batch | sed '/^refused$/q'");
+    let short = script("short", "SECOND batch | sed '/^reach complete$/q'");
     let (last, status, _) = fuzz("100", &[&short]);
     assert!(!last.ends_with(" 0 different"), "{last}");
     assert!(!last.starts_with("0 same"), "{last}");

@@ -1,10 +1,13 @@
 //! The vectors that are stored beside the product's batch program are those
-//! that this program makes, and they reach every refusal and every last line.
+//! that this program makes, and they reach every refusal and every last line,
+//! every level, handle and channel of reach sheets, and the longest of these.
 
 use std::collections::BTreeSet;
 use std::fs;
 use std::path::PathBuf;
 
+use second::answer::answer;
+use second::reach::{reach, LONGEST_REACH};
 use second::records;
 use second::sheet::sheet;
 use second::vectors::vectors;
@@ -17,12 +20,12 @@ fn stored(name: &str) -> Vec<u8> {
 }
 
 #[test]
-fn stored_records_and_sheets_are_the_ones_made_here() {
+fn stored_records_and_answers_are_the_ones_made_here() {
     let mut made = Vec::new();
     let mut answers = String::new();
     for record in vectors() {
         records::write(&record, &mut made).expect("a vector takes all bytes");
-        answers += &sheet(&record.text, record.allowance);
+        answers += &answer(&record);
     }
     assert!(made == stored("stdin"), "crates/batch/stdin is another");
     assert!(
@@ -46,4 +49,27 @@ fn vectors_reach_every_refusal_and_every_last_line() {
     }
     assert_eq!(refusals, (1..=14).collect());
     assert_eq!(phrases.len(), 3);
+}
+
+#[test]
+fn vectors_reach_every_level_handle_and_channel() {
+    let mut lines = BTreeSet::new();
+    let mut lengths = BTreeSet::new();
+    for record in vectors() {
+        let reach = reach(&record.text, record.allowance);
+        lengths.insert(reach.len());
+        lines.extend(reach.lines().map(str::to_string));
+    }
+    for level in 0..8 {
+        for handle in 0..32 {
+            let line = format!("23{level:02x}{handle:02x}");
+            assert!(lines.iter().any(|other| other.starts_with(&line)), "{line}");
+        }
+    }
+    for channel in 0..32 {
+        let ending = format!("{channel:02x}");
+        let mut frames = lines.iter().filter(|line| line.starts_with("23"));
+        assert!(frames.any(|line| line.ends_with(&ending)), "{ending}");
+    }
+    assert_eq!(lengths.last(), Some(&LONGEST_REACH));
 }

@@ -1,12 +1,14 @@
-// Answers many plans: records on standard input, their sheets on standard output one after the other. A record is a line of sixteen
+// Answers many plans: records on standard input, their sheets on standard output one after the other, each with its reach sheet behind it. A record is a line of sixteen
 // hexadecimal digits, eight for the length of the plan's text and eight for the allowance of rounds, and then the text's bytes. A record that
 // is none ends the run with a line that names it and says why.
 ghost use mathlib.Core.Path.{_≡_};
 ghost use lib.ListN.{length};
 ghost use Rattle.inputs.specs.Header.{longestText};
+ghost use Rattle.sheet.specs.Write.{Counted};
 use inputs::Fault;
 use libc::STDIN_FILENO;
 use libc::STDOUT_FILENO;
+use sheet::Sheet;
 
 // Says which record is none, and why; the run ends there.
 fn bad_record(number: u64, reason: &[u8]) -> bool {
@@ -18,16 +20,23 @@ fn bad_record(number: u64, reason: &[u8]) -> bool {
     false
 }
 
-// Reads a record's text and prints its sheet, or why it is no record; says whether to go on.
+// Prints a sheet.
+fn print(sheet: Sheet)
+    requires { ⌜ Counted sheet ⌝ }
+{
+    let bytes = sheet.bytes;
+    io::write_all(STDOUT_FILENO, &bytes[..sheet.size]);
+}
+
+// Reads a record's text and prints its sheets, or why it is no record; says whether to go on.
 fn answer_record(line: &[u8], text: &mut [u8], number: u64) -> bool {
     let had = io::read_full(STDIN_FILENO, text);
     let answer = inputs::of_record(line, &text[..had]);
     let fault = answer.fault;
     match fault {
         Fault::None => {
-            let sheet = answer.sheet;
-            let bytes = sheet.bytes;
-            io::write_all(STDOUT_FILENO, &bytes[..sheet.size]);
+            print(answer.sheet);
+            print(answer.reach);
             true
         }
         Fault::CutShort => bad_record(number, b"it is cut short"),

@@ -7,6 +7,9 @@ use lib.ListN.{length, take, replicate}
 use Rattle.solving.specs.Rounds.{roundCeiling}
 use Rattle.sheet.specs.declared.Sheet.{Sheet}
 use Rattle.sheet.specs.Write.{longestSheet, IsWhole}
+use Rattle.reach_sheet.specs.ReachSheet.{IsWholeReach}
+use Rattle.inputs.specs.declared.Asked.{Asked}
+use Rattle.inputs.specs.declared.Asked.the-variants.{Flow, Reach}
 use Rattle.inputs.specs.declared.Fault.{Fault}
 use Rattle.inputs.specs.declared.Fault.the-variants.{None, CutShort}
 use Rattle.inputs.specs.declared.Recorded.{Recorded}
@@ -16,9 +19,14 @@ use Rattle.inputs.specs.Header.{headerOf}
 
 -- ---- a whole input
 
+-- the sheet that is asked for
+abbrev pub IsAsked : Asked → List ℕ → ℕ → Sheet → Type 0
+IsAsked Flow = IsWhole
+IsAsked Reach = IsWholeReach
+
 -- every input of which `front`, in its first `size` bytes, holds as much as it can has this sheet, with the most rounds that any plan takes
-abbrev pub AnswersInput : List ℕ → ℕ → Sheet → Type 0
-AnswersInput front size r = (input : List ℕ) → take (length front) input ≡ take size front → IsWhole input roundCeiling r
+abbrev pub AnswersInput : Asked → List ℕ → ℕ → Sheet → Type 0
+AnswersInput asked front size r = (input : List ℕ) → take (length front) input ≡ take size front → IsAsked asked input roundCeiling r
 
 -- ---- a record
 
@@ -27,13 +35,15 @@ noSheet = record { bytes = replicate longestSheet 0; size = 0 }
 
 -- a record that is none
 abbrev pub noRecord : Fault → Recorded
-noRecord fault = record { fault = fault; sheet = noSheet }
+noRecord fault = record { fault = fault; sheet = noSheet; reach = noSheet }
 
 -- by what its header says, and as many bytes of its text as there were
 abbrev pub AnswersHeader : Header → List ℕ → Recorded → Type 0
 AnswersHeader (Faulty fault) text r = r ≡ noRecord fault
 AnswersHeader (Record size allowance) text r =
-    (length text < size → r ≡ noRecord CutShort) × (size ≤ length text → (r .fault ≡ None) × IsWhole (take size text) allowance (r .sheet))
+    let its = take size text in
+    (length text < size → r ≡ noRecord CutShort)
+    × (size ≤ length text → (r .fault ≡ None) × IsWhole its allowance (r .sheet) × IsWholeReach its allowance (r .reach))
 
 -- by its header's line
 abbrev pub AnswersRecord : List ℕ → List ℕ → Recorded → Type 0

@@ -1,13 +1,13 @@
-// From what a program reads to the sheet that it prints: the whole input of `plan`, and a record of `batch`. The programs are left with
-// reading and writing. Proved: the sheet is that of the whole input at the most rounds that any plan takes, or that of the record's text at
-// the record's allowance; and a record that is none is told why.
+// From what a program reads to the sheet that it prints: the whole input of `plan` and of `reaches`, and a record of `batch`. The programs are
+// left with reading and writing. Proved: the sheet is the one asked for, of the whole input at the most rounds that any plan takes; a record's
+// two are those of its text at its allowance; and a record that is none is told why.
 ghost use mathlib.Core.Path.{_≡_};
 ghost use Prim.Native.Nat.{_<_, _≤_};
 ghost use lib.ListN.{length};
 ghost use Rattle.limits.specs.Limits.{longest};
 ghost use Rattle.sheet.specs.Write.{Counted};
 ghost use Rattle.inputs.specs.Header.{headerOf, sizeIn, longestText};
-ghost use Rattle.inputs.specs.Answers.{AnswersInput, AnswersRecord, AnswersHeader, noSheet};
+ghost use Rattle.inputs.specs.Answers.{IsAsked, AnswersInput, AnswersRecord, AnswersHeader, noRecord};
 use crate::header::Header;
 use crate::header::header_of;
 use sheet::LONGEST;
@@ -27,31 +27,49 @@ pub enum Fault {
     AllowanceTooLarge,
 }
 
-// What a record is answered: its sheet, or what is wrong with it beside a blank one.
+// What a record is answered: its sheet and its reach sheet, or what is wrong with it beside blank ones.
 pub struct Recorded {
     pub fault: Fault,
     pub sheet: Sheet,
+    pub reach: Sheet,
+}
+
+// Which sheet is asked for: the one with the verdict, or the reach sheet.
+pub enum Asked {
+    Flow,
+    Reach,
+}
+
+// The sheet of a text that is asked for, within an allowance of rounds.
+fn asked_of(asked: Asked, text: &[u8], allowance: u16) -> Sheet
+    ensures { λ r. ⌜ IsAsked asked (now (text .entry)) allowance r ⌝ }
+    ensures { λ r. ⌜ Counted r ⌝ }
+{
+    match asked {
+        Asked::Flow => sheet::whole(text, allowance),
+        Asked::Reach => reach_sheet::whole(text, allowance),
+    }
 }
 
 // The sheet of a whole input of which the front is lent, with room for more than the longest text.
-fn of_front(front: &[u8], size: usize) -> Sheet
+fn of_front(asked: Asked, front: &[u8], size: usize) -> Sheet
     requires { ⌜ longest < length (now front) ⌝ }
-    ensures { λ r. ⌜ AnswersInput (now (front .entry)) size r ⌝ }
+    ensures { λ r. ⌜ AnswersInput asked (now (front .entry)) size r ⌝ }
     ensures { λ r. ⌜ Counted r ⌝ }
 {
     if front.len() < size {
-        return sheet::whole(front, solving::CEILING);
+        return asked_of(asked, front, solving::CEILING);
     }
-    sheet::whole(&front[..size], solving::CEILING)
+    asked_of(asked, &front[..size], solving::CEILING)
 }
 
-// The sheet of a whole input, with the most rounds that any plan takes, where `front` begins with as many bytes of the input as it can hold,
-// and these are `size`.
-pub fn of_input(front: [u8; FRONT], size: usize) -> Sheet
-    ensures { λ r. ⌜ AnswersInput front size r ⌝ }
+// The sheet that is asked for of a whole input, with the most rounds that any plan takes, where `front` begins with as many bytes of the input
+// as it can hold, and these are `size`.
+pub fn of_input(asked: Asked, front: [u8; FRONT], size: usize) -> Sheet
+    ensures { λ r. ⌜ AnswersInput asked front size r ⌝ }
     ensures { λ r. ⌜ Counted r ⌝ }
 {
-    of_front(&front, size)
+    of_front(asked, &front, size)
 }
 
 // How many bytes the text of a record has, by its header's line: none if that is no header.
@@ -64,41 +82,40 @@ pub fn text_size(line: &[u8]) -> usize
     }
 }
 
-// No sheet.
-fn blank() -> Sheet
-    ensures { λ r. ⌜ r ≡ noSheet ⌝ }
+// What a record is answered that is none.
+fn none(fault: Fault) -> Recorded
+    ensures { λ r. ⌜ r ≡ noRecord fault ⌝ }
 {
     let bytes = [0u8; LONGEST];
-    Sheet { bytes, size: 0 }
+    Recorded {
+        fault,
+        sheet: Sheet { bytes, size: 0 },
+        reach: Sheet { bytes, size: 0 },
+    }
 }
 
 // What a record is answered whose header is good, by as many bytes of its text as there were.
 fn of_text(text: &[u8], size: usize, allowance: u16) -> Recorded
     ensures { λ r. ⌜ AnswersHeader (Header.Record size allowance) (now (text .entry)) r ⌝ }
-    ensures { λ r. ⌜ Counted (r .sheet) ⌝ }
+    ensures { λ r. ⌜ Counted (r .sheet) × Counted (r .reach) ⌝ }
 {
     if text.len() < size {
-        return Recorded {
-            fault: Fault::CutShort,
-            sheet: blank(),
-        };
+        return none(Fault::CutShort);
     }
     Recorded {
         fault: Fault::None,
         sheet: sheet::whole(&text[..size], allowance),
+        reach: reach_sheet::whole(&text[..size], allowance),
     }
 }
 
 // What a record is answered, by its header's line and as many bytes of its text as there were.
 pub fn of_record(line: &[u8], text: &[u8]) -> Recorded
     ensures { λ r. ⌜ AnswersRecord (now (line .entry)) (now (text .entry)) r ⌝ }
-    ensures { λ r. ⌜ Counted (r .sheet) ⌝ }
+    ensures { λ r. ⌜ Counted (r .sheet) × Counted (r .reach) ⌝ }
 {
     match header_of(line) {
-        Header::Faulty(fault) => Recorded {
-            fault,
-            sheet: blank(),
-        },
+        Header::Faulty(fault) => none(fault),
         Header::Record(size, allowance) => of_text(text, size, allowance),
     }
 }

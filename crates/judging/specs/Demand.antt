@@ -4,9 +4,8 @@ use Prim.Native.Nat.{ℕ}
 use mathlib.Core.Path.{_≡_}
 use mathlib.Core.Logic.{_↔_, _≢_}
 use Rattle.reading.specs.Plan.{Plan}
-use Rattle.solving.specs.Solutions.{Sets, LiesWithin}
-use Rattle.solving.specs.Clauses.{Acceptable}
-use Rattle.solving.specs.Least.{Least}
+use Rattle.solving.specs.Solutions.{Sets}
+use Rattle.solving.specs.Least.{Least, AcceptableIn}
 use Rattle.judging.specs.declared.Breach.{Breach}
 use Rattle.judging.specs.declared.Verdict.{Verdict}
 use Rattle.judging.specs.Verdict.{Lower, Discreet, IsBreach, NotAfter}
@@ -15,11 +14,6 @@ use Rattle.judging.specs.Judge.{yesBytes, noBytes, noVerdict, verdictByt
 -- g is lower than h in the plan
 abbrev pub lowerIn : Plan → ℕ → ℕ → Type 0
 lowerIn plan = Lower (plan .head .top)
-
--- an acceptable solution of the plan, within C, B and k
-pub record AcceptableIn (plan : Plan) (t : Sets) : Type 0 where
-  pub within : LiesWithin (plan .head) t
-  pub acceptable : Acceptable (plan .tree) t
 
 -- there is a verdict. It is yes exactly if there is an acceptable solution that is discreet; a no's breach is in every acceptable
 -- solution, and no smaller breach is in the least one

@@ -12,7 +12,7 @@ use Rattle.lines.specs.Rules.{outsideLimits, headRule, nameRule, pairRule, rece
 use Rattle.lines.specs.Line.{firstHead, nextName, nextNode}
 use Rattle.reading.specs.Tree.{listing}
 use Rattle.reading.specs.Plan.{Outcome, refused, read, Plan, grow, readNames, readTree, afterHead, readPlan, wrongLength, planIn}
-use Rattle.sheet.specs.Sheet.{text}
+use Rattle.putting.specs.Characters.{text}
 
 -- so many lines of one kind
 abbrev lines : ℕ → String → List ℕ

@@ -13,7 +13,8 @@ use Rattle.solving.specs.Rounds.{roundCeiling}
 use Rattle.solving.specs.inner.Compute.{wanted, run, solutionOf}
 use Rattle.sets.specs.inner.Compute.{lowestWithin}
 use Rattle.judging.specs.inner.Compute.{verdictFrom}
-use Rattle.sheet.specs.Sheet.{setLines, text, digit, hexLine, hexLines, SheetFor}
+use Rattle.putting.specs.Characters.{text, digit, hexLine, hexLines}
+use Rattle.sheet.specs.Sheet.{setLines, SheetFor}
 use Rattle.sheet.specs.inner.Compute.{sheetFor}
 use Rattle.sheet.proofs.Sheets.{sheet-computed}
 
@@ -23,21 +24,21 @@ pub record KnownPlan : Type 0 where
   pub allowance : ℕ
   pub sheet : List ℕ
 
-abbrev row : List ℕ → ℕ → List ℕ → KnownPlan
+abbrev pub row : List ℕ → ℕ → List ℕ → KnownPlan
 row plan allowance sheet = record { plan = plan; allowance = allowance; sheet = sheet }
 
 -- what the plan program allows
-abbrev allowed : ℕ
+abbrev pub allowed : ℕ
 allowed = roundCeiling
 
-abbrev p2 : List ℕ
+abbrev pub p2 : List ℕ
 p2 = text "010102010102\n020000\n020101\n15\n1901\n120001\n10\n1900\n13000200\n10\n"
 
 abbrev p2-sheet : List ℕ
 p2-sheet = text "2f0004\n200000000002\n21000000000002\n21070000000002\n22010000000002\n22070000000002\n300001000001\nflow breach\n"
 
 -- document 000's Example 1, a b c as channels 0 1 2, x y z w as binders 0 to 3, R Q P at 0 1 2
-abbrev p6 : List ℕ
+abbrev pub p6 : List ℕ
 p6 =
     text "010103040203\n020000\n020101\n020202\n18\n15\n1900\n120001\n120001\n120102\n10\n"
     ++ text "15\n1901\n13000300\n120303\n10\n1902\n13000401\n13040502\n14\n170405\n120400\n10\n13040603\n10\n"
@@ -82,7 +83,7 @@ rows =
 abbrev computed : List KnownPlan → List (List ℕ)
 computed rs = map (λ (r : KnownPlan). sheetFor (r .plan) (r .allowance)) rs
 
-abbrev sheets : List KnownPlan → List (List ℕ)
+abbrev pub sheets : List KnownPlan → List (List ℕ)
 sheets rs = map (λ (r : KnownPlan). r .sheet) rs
 
 computed-rows : computed rows ≡ sheets rows

@@ -23,6 +23,10 @@ bit s c = s / 2 ^ c % 2
 abbrev pub Has : Set → ℕ → Type 0
 Has s c = bit s c ≡ 1
 
+-- the test of it
+abbrev pub isMember : Set → ℕ → Bool
+isMember s c = eqb (bit s c) 1
+
 -- s has just the members that P names
 pub record Members (s : Set) (P : ℕ → Type 0) : Type 0 where
   pub has : (c : ℕ) → Has s c ↔ P c

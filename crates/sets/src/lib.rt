@@ -6,7 +6,7 @@ ghost use mathlib.Core.Path.{_≡_};
 ghost use mathlib.Core.Logic.{_⊎_};
 ghost use Prim.Native.Nat.{_<_};
 ghost use Rattle.limits.specs.Limits.{mostChannels};
-ghost use Rattle.sets.specs.Set.{none, Has, Members, Empty, Meet, LeastMember, Without, Decides, setBytes};
+ghost use Rattle.sets.specs.Set.{none, Has, isMember, Members, Empty, Meet, LeastMember, Without, Decides, setBytes};
 
 // A set of channels.
 pub type Set = u32;
@@ -23,6 +23,14 @@ pub fn every() -> Set
     ensures { λ r. ⌜ Members r (λ c. c < mostChannels) ⌝ }
 {
     u32::MAX
+}
+
+// Whether `channel` is a member of `set`.
+pub fn has(set: Set, channel: u32) -> bool
+    requires { ⌜ channel < mostChannels ⌝ }
+    ensures { λ r. ⌜ r ≡ isMember set channel ⌝ }
+{
+    (set >> channel) % 2 == 1
 }
 
 // The set whose one member is `channel`.

@@ -11,10 +11,12 @@ use lib.ListN.{length, drop, length-append, drop-of-length-le}
 use lib.Seq.{drop-cons}
 use Rattle.sets.specs.Set.{Set, none, isNone, setBytes}
 use Rattle.sets.specs.Rows.{SetRow, setAt}
-use Rattle.sheet.specs.Sheet.{setLine, setLines, hexLine, hexLines}
-use Rattle.sheet.specs.inner.Working.{Room, Put, filledIn}
-use Rattle.sheet.proofs.Putting.{Left, left-none, left-put, left-room-first}
-use Rattle.sheet.proofs.Characters.{line-length, lines-append}
+use Rattle.putting.specs.Characters.{hexLine, hexLines}
+use Rattle.sheet.specs.Sheet.{setLine, setLines}
+use Rattle.putting.specs.Put.{Room, Put}
+use Rattle.sheet.specs.inner.Working.{filledIn}
+use Rattle.putting.proofs.Putting.{Left, left-none, left-put, left-room-first}
+use Rattle.putting.proofs.Characters.{line-length, lines-append}
 
 -- ---- how many sets are not empty
 

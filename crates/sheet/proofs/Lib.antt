@@ -1,7 +1,5 @@
 -- The laws and theorems, by subject. Other crates may cite them.
 -- The code's writing.
-pub mod Putting
-pub mod Characters
 pub mod Filling
 pub mod Parts
 -- The promise, over texts.

@@ -11,9 +11,10 @@ use Rattle.judging.specs.declared.Verdict.{Verdict}
 use Rattle.judging.specs.declared.Verdict.the-variants.{Unjudged}
 use Rattle.judging.specs.Judge.{verdictBytes}
 use Rattle.sheet.specs.declared.rows.Part.the-variants.{Binders, Ins, Outs}
-use Rattle.sheet.specs.Sheet.{countLine, binderName, inName, outName, setLines, solutionLines, solvedLines, refusalLine, byteLines, hexLine, hexLines, phrase, sheetOf}
+use Rattle.putting.specs.Characters.{hexLine, hexLines}
+use Rattle.sheet.specs.Sheet.{countLine, binderName, inName, outName, setLines, solutionLines, solvedLines, refusalLine, byteLines, phrase, sheetOf}
 use Rattle.sheet.specs.inner.Working.{rowText, filledIn, refusalText, judgedText}
-use Rattle.sheet.proofs.Characters.{line-length, lines-append}
+use Rattle.putting.proofs.Characters.{line-length, lines-append}
 use Rattle.sheet.proofs.Filling.{lines-size}
 
 -- ---- the lines in front of the verdict

@@ -18,38 +18,39 @@ use Rattle.judging.specs.declared.Verdict.the-variants.{Unjudged, Yes, No}
 use Rattle.judging.specs.Judge.{Judges}
 use Rattle.judging.proofs.Demands.{once as answer-once, computed as answer-computed}
 use Rattle.sheet.specs.declared.Written.the-variants.{Whole, TooShort}
-use Rattle.sheet.specs.Sheet.{solutionLines, hexLines, sheetOf, SheetFor}
-use Rattle.sheet.specs.Write.{Writes, longestSheet}
+use Rattle.putting.specs.Characters.{hexLines}
+use Rattle.sheet.specs.Sheet.{solutionLines, sheetOf, SheetFor}
+use Rattle.sheet.specs.Write.{Wrote, Writes, longestSheet}
 use Rattle.sheet.specs.inner.Compute.{sheetFor}
-use Rattle.sheet.specs.inner.Working.{Put}
+use Rattle.putting.specs.Put.{Put}
 use Rattle.sheet.proofs.Filling.{filled-most}
 use Rattle.sheet.proofs.Parts.{solution-size, refused-size, judged-size}
 
 -- ---- the two ways in which the code returns
+
+pub short-wrote : (sheet before : List ℕ) (size : ℕ) → size ≡ length sheet → length before < size → Wrote sheet before (TooShort size) before
+short-wrote sheet before size e l = record { longer = λ _. (ap (λ n. 15 ∷ n ∷ []) e, refl); otherwise = λ h. absurd (omega arith) }
+
+pub whole-wrote : (sheet before after : List ℕ) (size next : ℕ) → size ≡ length sheet → size ≤ length before → Put before 0 sheet after next
+    → Wrote sheet before (Whole size) after
+whole-wrote sheet before after size next e l p = record {
+  longer = λ h. absurd (omega arith);
+  otherwise = λ h. (ap (λ n. 0 ∷ n ∷ []) e, p .stands ∙ (sets-eq sheet before 0 (omega arith) ∙ ap (λ n. sheet ++ drop n before) from));
+}
+  where
+    from : 0 + length sheet ≡ length sheet
+    from = omega arith
 
 module _ {text : List ℕ} {allowance : ℕ} {a : Answer} (judged : Judges (planIn text) allowance a) where
   its-sheet : SheetFor text allowance (sheetOf a)
   its-sheet = record { answer = a; judged = judged; is = refl }
 
   pub short-writes : (before : List ℕ) (size : ℕ) → size ≡ length (sheetOf a) → length before < size → Writes text allowance before (TooShort size) before
-  short-writes before size e l = record {
-    sheet = sheetOf a;
-    of-text = its-sheet;
-    longer = λ _. (ap (λ n. 15 ∷ n ∷ []) e, refl);
-    otherwise = λ h. absurd (omega arith);
-  }
+  short-writes before size e l = record { sheet = sheetOf a; of-text = its-sheet; wrote = short-wrote (sheetOf a) before size e l }
 
   pub whole-writes : (before after : List ℕ) (size next : ℕ) → size ≡ length (sheetOf a) → size ≤ length before → Put before 0 (sheetOf a) after next
       → Writes text allowance before (Whole size) after
-  whole-writes before after size next e l p = record {
-    sheet = sheetOf a;
-    of-text = its-sheet;
-    longer = λ h. absurd (omega arith);
-    otherwise = λ h. (ap (λ n. 0 ∷ n ∷ []) e, p .stands ∙ (sets-eq (sheetOf a) before 0 (omega arith) ∙ ap (λ n. sheetOf a ++ drop n before) from));
-  }
-    where
-      from : 0 + length (sheetOf a) ≡ length (sheetOf a)
-      from = omega arith
+  whole-writes before after size next e l p = record { sheet = sheetOf a; of-text = its-sheet; wrote = whole-wrote (sheetOf a) before after size next e l p }
 
 -- ---- the sheet
 

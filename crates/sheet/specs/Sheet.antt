@@ -1,31 +1,23 @@
 -- Document 01, 'The sheet': its lines in order, a line as bytes, and the whole as characters.
 -- Assumes nothing.
 use Prim.Native.Nat.{ℕ, _+_, _/_, _%_}
-use Prim.Native.Char.{code}
 use Prim.Native.String as S
 use Prim.Native.String.{String}
 use mathlib.Core.Bool.{cond}
 use mathlib.Core.Path.{_≡_}
 use mathlib.Core.List.{List, [], _∷_, _++_}
-use lib.Dec.{ltb}
 use Rattle.limits.specs.Limits.{mostChannels}
+use Rattle.putting.specs.Characters.{text, twoBytes, hexLines}
 use Rattle.sets.specs.Set.{Set, isNone, setBytes}
 use Rattle.sets.specs.Rows.{SetRow}
 use Rattle.reading.specs.declared.Refusal.{Refusal}
 use Rattle.reading.specs.Plan.{planIn}
-use Rattle.lines.specs.Text.{lineFeed}
 use Rattle.solving.specs.declared.Solution.{Solution}
 use Rattle.solving.specs.declared.Solved.{Solved}
 use Rattle.judging.specs.declared.Answer.{Answer}
 use Rattle.judging.specs.declared.Verdict.{Verdict}
 use Rattle.judging.specs.declared.Verdict.the-variants.{Unjudged, Yes, No}
 use Rattle.judging.specs.Judge.{verdictBytes, Judges}
-
--- ---- numbers on a line
-
--- two bytes, high byte first
-abbrev pub twoBytes : ℕ → List ℕ
-twoBytes n = n / 0x100 % 0x100 ∷ n % 0x100 ∷ []
 
 -- ---- the lines in order
 
@@ -72,26 +64,7 @@ byteLines s Unjudged = refusalLine (s .refusal) ∷ []
 byteLines s Yes = solvedLines s ++ (verdictBytes Yes ∷ [])
 byteLines s (No b) = solvedLines s ++ (verdictBytes (No b) ∷ [])
 
--- ---- characters
-
--- characters by their codes
-abbrev pub text : String → List ℕ
-text S.[] = []
-text (S._∷_ c s) = code c ∷ text s
-
--- 0-9 a-f
-unfoldable pub digit : ℕ → ℕ
-digit d = cond (ltb d 10) (48 + d) (87 + d)
-
--- a line: two digits a byte, and a line feed
-unfoldable pub hexLine : List ℕ → List ℕ
-hexLine [] = lineFeed ∷ []
-hexLine (b ∷ bs) = digit (b / 16) ∷ digit (b % 16) ∷ hexLine bs
-
--- lines, one after the other
-unfoldable pub hexLines : List (List ℕ) → List ℕ
-hexLines [] = []
-hexLines (l ∷ ls) = hexLine l ++ hexLines ls
+-- ---- the phrase
 
 -- the last line is one of three fixed phrases
 abbrev pub phrase : Verdict → List ℕ

@@ -19,25 +19,33 @@ valuesOf (TooShort needed) = 15 ∷ needed ∷ []
 abbrev pub lengthIn : Written → ℕ
 lengthIn written = getD (valuesOf written) 1 0
 
--- what is returned, and what the buffer holds afterwards, by the text, the allowance of rounds and what the buffer held before
-pub record Writes (text : List ℕ) (allowance : ℕ) (before : List ℕ) (returned : Written) (after : List ℕ) : Type 0 where
-  pub sheet : List ℕ
-  pub of-text : SheetFor text allowance sheet
+-- what is returned, and what the buffer holds afterwards, by the sheet and what the buffer held before
+pub record Wrote (sheet before : List ℕ) (returned : Written) (after : List ℕ) : Type 0 where
   -- the sheet is longer than the lent buffer: the length needed, and the buffer is unchanged
   pub longer : length before < length sheet → (valuesOf returned ≡ 15 ∷ length sheet ∷ []) × (after ≡ before)
   -- otherwise the sheet's length, the sheet from the buffer's start, and every byte past it stays
   pub otherwise : length sheet ≤ length before → (valuesOf returned ≡ 0 ∷ length sheet ∷ []) × (after ≡ sheet ++ drop (length sheet) before)
 
+-- the same, by the text and the allowance of rounds
+pub record Writes (text : List ℕ) (allowance : ℕ) (before : List ℕ) (returned : Written) (after : List ℕ) : Type 0 where
+  pub sheet : List ℕ
+  pub of-text : SheetFor text allowance sheet
+  pub wrote : Wrote sheet before returned after
+
 -- the bytes that suffice for every sheet
 abbrev pub longestSheet : ℕ
 longestSheet = 8128
 
--- a whole sheet by itself, with zeros behind it
+-- a sheet by itself, with zeros behind it
+pub record Fills (sheet : List ℕ) (r : Sheet) : Type 0 where
+  pub size : r .size ≡ length sheet
+  pub bytes : r .bytes ≡ padded longestSheet 0 sheet
+
+-- the whole sheet of a text
 pub record IsWhole (text : List ℕ) (allowance : ℕ) (r : Sheet) : Type 0 where
   pub sheet : List ℕ
   pub of-text : SheetFor text allowance sheet
-  pub size : r .size ≡ length sheet
-  pub bytes : r .bytes ≡ padded longestSheet 0 sheet
+  pub fills : Fills sheet r
 
 -- its size counts bytes of its array. That follows, and is said for those who take the front part of the array
 abbrev pub Counted : Sheet → Type 0

@@ -2,15 +2,17 @@
 ghost use mathlib.Core.Path.{_≡_};
 ghost use mathlib.Core.List.{_++_};
 ghost use lib.ListN.{length};
-ghost use Rattle.sheet.specs.Sheet.{solvedLines, hexLine, hexLines, sheetOf};
-ghost use Rattle.sheet.specs.inner.Working.{Room, Put, refusalText, judgedText};
-use crate::put::put_last;
-use crate::put::put_line;
+ghost use Rattle.putting.specs.Characters.{hexLine, hexLines};
+ghost use Rattle.sheet.specs.Sheet.{solvedLines, sheetOf};
+ghost use Rattle.putting.specs.Put.{Room, Put};
+ghost use Rattle.sheet.specs.inner.Working.{refusalText, judgedText};
 use crate::rows::put_solution;
 use crate::rows::solution_length;
 use judging::Answer;
 use judging::Breach;
 use judging::Verdict;
+use putting::put_last;
+use putting::put_line;
 use reading::Refusal;
 use solving::Solved;
 
@@ -43,7 +45,7 @@ fn put_solved(buffer: &mut [u8], solved: Solved) -> usize
 }
 
 // Puts the sheet of a refusal at the buffer's start.
-fn put_refusal(buffer: &mut [u8], refusal: Refusal) -> usize
+pub fn put_refusal(buffer: &mut [u8], refusal: Refusal) -> usize
     requires { ⌜ Room (now buffer) 0 (refusalText refusal) ⌝ }
     ensures { λ r. ⌜ Put (now (buffer .entry)) 0 (refusalText refusal) (now (buffer .exit)) r ⌝ }
 {

@@ -1,5 +1,5 @@
-// Writes the answer sheet of a plan's text to a lent buffer. The way of the data: a line's bytes as characters, a row's sets as lines, the
-// whole answer, and here the operation from text. The sheet's length is known first, so that a buffer that is too short is not touched;
+// Writes the answer sheet of a plan's text to a lent buffer. The way of the data: a row's sets as lines, the whole answer, and here the
+// operation from text. The sheet's length is known first, so that a buffer that is too short is not touched;
 // then it is written once, from its start. Proved: the buffer holds the document's sheet and is otherwise as it was, or all of it is.
 ghost use mathlib.Core.Path.{_≡_};
 ghost use Rattle.sheet.specs.Write.{lengthIn, Writes, IsWhole, Counted};
@@ -7,8 +7,9 @@ use crate::answers::length_of;
 use crate::answers::put_answer;
 
 mod answers;
-mod put;
 mod rows;
+
+pub use answers::put_refusal;
 
 // What writing a sheet returns.
 pub enum Written {

@@ -3,11 +3,13 @@ ghost use mathlib.Core.Path.{_≡_};
 ghost use Prim.Native.Nat.{_<_, _≤_};
 ghost use lib.ListN.{length};
 ghost use Rattle.limits.specs.Limits.{levelSets};
-ghost use Rattle.sheet.specs.Sheet.{solutionLines, hexLines};
+ghost use Rattle.putting.specs.Characters.{hexLines};
+ghost use Rattle.sheet.specs.Sheet.{solutionLines};
 ghost use Rattle.sheet.specs.Write.{longestSheet};
-ghost use Rattle.sheet.specs.inner.Working.{Room, Put, setText, rowText, filledIn};
-use crate::put::put_line;
+ghost use Rattle.putting.specs.Put.{Room, Put};
+ghost use Rattle.sheet.specs.inner.Working.{setText, rowText, filledIn};
 use limits::CHANNEL_SETS;
+use putting::put_line;
 use sets::Set;
 use solving::Solution;
 

@@ -1,7 +1,6 @@
 -- `of_record`: by what the header says. Assumes nothing.
-use mathlib.Core.Path.{sym, subst⁻¹, _∙_}
-use Rattle.sheet.specs.Write.{Counted}
-use Rattle.inputs.proofs.Answering.{blank-counted, record-answers, fault-answers}
+use mathlib.Core.Path.{sym, _∙_}
+use Rattle.inputs.proofs.Answering.{none-counted, record-answers}
 use borrow.Author.Needs.{needs}
 use Rattle.inputs.proofs.of_record.Statement.{statement}
 use Rattle.inputs.proofs.of_record.Tie as tie
@@ -12,8 +11,8 @@ header-of-requires c κs = search needs
 enum-known-fault : tie.Need-enum-known-fault
 enum-known-fault c = search needs
 
-blank-requires : tie.Need-blank-requires
-blank-requires c κs = search needs
+none-requires : tie.Need-none-requires
+none-requires c κs = search needs
 
 enum-known-size : tie.Need-enum-known-size
 enum-known-size c = search needs
@@ -25,7 +24,7 @@ returns : tie.Need-returns
 returns c =
     let known = c .before .before in
     let said = sym (known .fault .given .1) ∙ known .before .before .header-of .ensures in
-    (fault-answers _ _ _ _ said (c .blank .ensures), subst⁻¹ Counted (c .blank .ensures) blank-counted)
+    (record-answers _ _ _ _ said (c .none .ensures), none-counted _ _ (c .none .ensures))
 
 returns-2 : tie.Need-returns-2
 returns-2 c =
@@ -39,7 +38,7 @@ of-record-spec =
     (tie.spec
     header-of-requires
     enum-known-fault
-    blank-requires
+    none-requires
     enum-known-size
     of-text-requires
     returns

@@ -1,23 +1,19 @@
--- `of_text`: a text that is cut short has a blank sheet, and one that is not has the sheet of as many bytes as the header says. Assumes nothing.
-use mathlib.Core.Path.{refl, sym, ap, subst⁻¹}
+-- `of_text`: a text that is cut short is no record, and one that is not has the sheets of as many bytes as the header says. Assumes nothing.
+use mathlib.Core.Path.{refl, sym}
 use native.Mathlib.Omega.{arith}
 use lib.Seq.{length-take-le}
-use Rattle.sheet.specs.Write.{Counted}
-use Rattle.inputs.specs.declared.Fault.the-variants.{CutShort}
 use borrow.Author.Needs.{needs}
-use Rattle.inputs.proofs.Answering.{blank-counted}
+use Rattle.inputs.proofs.Answering.{none-counted}
 use Rattle.inputs.proofs.of_text.Statement.{statement}
 use Rattle.inputs.proofs.of_text.Tie as tie
 
-blank-requires : tie.Need-blank-requires
-blank-requires c κs = search needs
+none-requires : tie.Need-none-requires
+none-requires c κs = search needs
 
 returns : tie.Need-returns
 returns c =
-    let short = c .before .if1 .taken in (
-      (λ h. ap (λ s. record { fault = CutShort; sheet = s }) (c .blank .ensures), λ h. absurd (omega arith)),
-      subst⁻¹ Counted (c .blank .ensures) blank-counted,
-    )
+    let short = c .before .if1 .taken in
+    ((λ h. c .none .ensures, λ h. absurd (omega arith)), none-counted _ _ (c .none .ensures))
 
 slice-aggregate-whole : tie.Need-slice-aggregate-whole
 slice-aggregate-whole c = sym (length-take-le _ _ (c .before .if1 .left))
@@ -25,8 +21,19 @@ slice-aggregate-whole c = sym (length-take-le _ _ (c .before .if1 .left))
 whole-requires : tie.Need-whole-requires
 whole-requires c κs = search needs
 
+slice-aggregate-whole-2 : tie.Need-slice-aggregate-whole-2
+slice-aggregate-whole-2 c = sym (length-take-le _ _ (c .before .before .before .if1 .left))
+
+whole-requires-2 : tie.Need-whole-requires-2
+whole-requires-2 c κs = search needs
+
 returns-2 : tie.Need-returns-2
-returns-2 c = ((λ h. absurd (omega (arith, c .before .before .if1 .left)), λ h. (refl, c .whole .ensures .0)), c .whole .ensures .1)
+returns-2 c =
+    let first = c .before .before in
+    let long = first .before .before .if1 .left in (
+      (λ h. absurd (omega arith), λ h. (refl, first .whole .ensures .0, c .whole2 .ensures .0)),
+      (first .whole .ensures .1, c .whole2 .ensures .1),
+    )
 
 pub of-text-spec : {M : Type 1} → statement M
-of-text-spec = tie.close (tie.spec blank-requires returns slice-aggregate-whole whole-requires returns-2)
+of-text-spec = tie.close (tie.spec none-requires returns slice-aggregate-whole whole-requires slice-aggregate-whole-2 whole-requires-2 returns-2)

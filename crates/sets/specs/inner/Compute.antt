@@ -1,4 +1,4 @@
--- Sets that the checker computes with: a member joined at a place of a row, what two sets share, and the least member.
+-- Sets that the checker computes with: a member joined at a place of a row, what two sets have together and share, and the least member.
 -- Assumes nothing.
 use Prim.Native.Nat.{ℕ, zero, suc, _/_, _%_, _^_}
 use mathlib.Core.Bool.{cond}
@@ -11,6 +11,10 @@ use Rattle.sets.specs.Rows.{SetRow, setAt}
 -- a row with o joined to the set at place i
 abbrev pub withMember : SetRow → ℕ → ℕ → SetRow
 withMember row i o = set row i (bitOr (setAt row i) (2 ^ o))
+
+-- what a or b has
+abbrev pub joined : Set → Set → Set
+joined a b = bitOr a b
 
 -- what a and b share
 abbrev pub shared : Set → Set → Set

@@ -16,7 +16,7 @@ length-in-requires c κs = search needs
 returns : tie.Need-returns
 returns c =
     let is = whole-is _ (c .before .before .write .ensures) (c .length-in .ensures) in
-    (is, counted is)
+    (is, counted (is .fills))
 
 pub whole-spec : {M : Type 1} → statement M
 whole-spec = tie.close (tie.spec slice-aggregate-write write-requires length-in-requires returns)

@@ -1,12 +1,8 @@
--- For the contracts of the code's inner functions alone: characters put into a buffer, the parts of a solution, how many sets are
--- not empty, and the parts of a sheet.
+-- For the contracts of the code's inner functions alone: the parts of a solution, how many sets are not empty, and the parts of a sheet.
 -- Assumes nothing.
-use Prim.Native.Nat.{ℕ, _+_, _≤_}
+use Prim.Native.Nat.{ℕ, _+_}
 use mathlib.Core.Bool.{cond}
-use mathlib.Core.Path.{_≡_}
 use mathlib.Core.List.{List, [], _∷_, _++_}
-use lib.ListN.{length}
-use lib.Seq.{sets}
 use Rattle.sets.specs.Set.{Set, isNone}
 use Rattle.sets.specs.Rows.{SetRow}
 use Rattle.reading.specs.declared.Refusal.{Refusal}
@@ -16,17 +12,8 @@ use Rattle.judging.specs.declared.Verdict.the-variants.{Unjudged}
 use Rattle.judging.specs.Judge.{verdictBytes}
 use Rattle.sheet.specs.declared.rows.Part.{Part}
 use Rattle.sheet.specs.declared.rows.Part.the-variants.{Binders, Ins, Outs}
-use Rattle.sheet.specs.Sheet.{binderName, inName, outName, setLine, setLines, solvedLines, refusalLine, hexLine, hexLines, phrase}
-
--- there is room for xs from a position on
-pub record Room (buffer : List ℕ) (at : ℕ) (xs : List ℕ) : Type 0 where
-  pub fits : at + length xs ≤ length buffer
-
--- xs stands in the buffer from a position on, and nothing else is changed; `next` is the position behind it
-pub record Put (before : List ℕ) (at : ℕ) (xs : List ℕ) (after : List ℕ) (next : ℕ) : Type 0 where
-  pub stands : after ≡ sets before at xs
-  pub behind : next ≡ at + length xs
-  pub size : length after ≡ length before
+use Rattle.putting.specs.Characters.{hexLine, hexLines}
+use Rattle.sheet.specs.Sheet.{binderName, inName, outName, setLine, setLines, solvedLines, refusalLine, phrase}
 
 -- what stands in front of a set in a row's lines
 abbrev pub partName : Part → ℕ → List ℕ

@@ -1,8 +1,8 @@
 -- `put_answer`: by the verdict, the sheet is a refusal's, or that of a yes or a no. Assumes nothing.
 use mathlib.Core.Path.{refl, subst}
 use Rattle.judging.specs.declared.Verdict.the-variants.{Yes, No}
-use Rattle.sheet.specs.inner.Working.{Room}
-use Rattle.sheet.proofs.Putting.{put-same}
+use Rattle.putting.specs.Put.{Room}
+use Rattle.putting.proofs.Putting.{put-same}
 use Rattle.sheet.proofs.Parts.{refused-parts, judged-parts}
 use borrow.Author.Needs.{needs}
 use Rattle.sheet.proofs.answers.put_answer.Statement.{statement}

@@ -1,6 +1,6 @@
 -- `put_judged`: the lines in front of the verdict, and behind them the last two. Assumes nothing.
 use borrow.Author.Needs.{needs}
-use Rattle.sheet.proofs.Putting.{room-first, room-then, put-then}
+use Rattle.putting.proofs.Putting.{room-first, room-then, put-then}
 use Rattle.sheet.proofs.answers.put_judged.Statement.{statement}
 use Rattle.sheet.proofs.answers.put_judged.Tie as tie
 

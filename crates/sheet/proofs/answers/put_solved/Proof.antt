@@ -1,9 +1,10 @@
 -- `put_solved`: the count's line, and behind it the sets' lines. Assumes nothing.
 use mathlib.Core.Path.{subst}
 use mathlib.Core.List.{_++_}
-use Rattle.sheet.specs.Sheet.{countLine, solutionLines, hexLine, hexLines}
-use Rattle.sheet.specs.inner.Working.{Room}
-use Rattle.sheet.proofs.Putting.{room-first, room-then, put-then, put-same}
+use Rattle.putting.specs.Characters.{hexLine, hexLines}
+use Rattle.sheet.specs.Sheet.{countLine, solutionLines}
+use Rattle.putting.specs.Put.{Room}
+use Rattle.putting.proofs.Putting.{room-first, room-then, put-then, put-same}
 use Rattle.sheet.proofs.Parts.{solved-parts}
 use borrow.Author.Needs.{needs}
 use Rattle.sheet.proofs.answers.put_solved.Statement.{statement}

@@ -2,9 +2,10 @@
 use Prim.Native.Nat.{_-_}
 use native.Mathlib.Omega.{arith}
 use lib.ListN.{length, drop}
-use Rattle.sheet.specs.Sheet.{setLines, hexLines}
+use Rattle.putting.specs.Characters.{hexLines}
+use Rattle.sheet.specs.Sheet.{setLines}
 use Rattle.sheet.specs.inner.Working.{partName, rowText}
-use Rattle.sheet.proofs.Putting.{Left, left-all}
+use Rattle.putting.proofs.Putting.{Left, left-all}
 use Rattle.sheet.proofs.Filling.{row-room, row-step, row-end}
 use Rattle.sheet.proofs.rows.put_row.Statement.{statement}
 use Rattle.sheet.proofs.rows.put_row.Tie as tie

@@ -8,9 +8,10 @@ use Rattle.sheet.specs.declared.rows.Part.{Part}
 use Rattle.sheet.specs.declared.rows.Part.the-variants.{Binders, Ins, Outs}
 use Rattle.sets.specs.Set.{setBytes}
 use Rattle.sets.proofs.Minimum.{none-told}
-use Rattle.sheet.specs.Sheet.{hexLine}
-use Rattle.sheet.specs.inner.Working.{Room, Put, partName, setText}
-use Rattle.sheet.proofs.Putting.{put-none, put-same}
+use Rattle.putting.specs.Characters.{hexLine}
+use Rattle.putting.specs.Put.{Room, Put}
+use Rattle.sheet.specs.inner.Working.{partName, setText}
+use Rattle.putting.proofs.Putting.{put-none, put-same}
 use Rattle.sheet.proofs.Filling.{set-line, set-none}
 use Rattle.sheet.proofs.rows.put_set.Statement.{statement}
 use Rattle.sheet.proofs.rows.put_set.Tie as tie

@@ -7,8 +7,9 @@ use lib.ListN.{length}
 use Rattle.limits.specs.Limits.{mostBinders, levelSets}
 use Rattle.solving.specs.declared.Solution.{Solution}
 use Rattle.sheet.specs.declared.rows.Part.the-variants.{Binders, Ins, Outs}
-use Rattle.sheet.specs.inner.Working.{Room, rowText}
-use Rattle.sheet.proofs.Putting.{room-first, room-then, put-then, put-same}
+use Rattle.putting.specs.Put.{Room}
+use Rattle.sheet.specs.inner.Working.{rowText}
+use Rattle.putting.proofs.Putting.{room-first, room-then, put-then, put-same}
 use Rattle.sheet.proofs.Parts.{solution-parts}
 use Rattle.sheet.proofs.rows.put_solution.Statement.{statement}
 use Rattle.sheet.proofs.rows.put_solution.Tie as tie

@@ -1,0 +1,3 @@
+-- Lines as characters, and characters in a buffer.
+pub mod Characters
+pub mod Put

@@ -1,0 +1,2 @@
+-- The laws of the reach sheet.
+pub mod Reached

@@ -1,0 +1,2 @@
+-- What the checker computes with.
+pub mod Compute

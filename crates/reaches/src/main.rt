@@ -1,0 +1,7 @@
+// Prints the reach sheet of the plan on standard input.
+use inputs::Asked;
+
+// Prints the reach sheet of the text on standard input.
+fn main() {
+    asking::answer(Asked::Reach);
+}
