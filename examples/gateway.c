@@ -1,9 +1,10 @@
-/* A gateway in C: prints the sheet of the plan on standard input, after trying buffers of many lengths, with bytes around them that have to stay.
+/* A gateway in C: prints the sheet, or the reach sheet, of the plan on standard input, after trying buffers of many lengths, with bytes around them
+   that have to stay.
 
      cc -std=c11 -O2 -o gateway examples/gateway.c target/staticlib/libgateway.a
-     ./gateway [ALLOWANCE]     ALLOWANCE is the rounds allowed, 0 to 65,535; without it, as many as any plan needs
+     ./gateway [reach] [ALLOWANCE]     ALLOWANCE is the rounds allowed, 0 to 65,535; without it, as many as any plan needs
 
-   Exit status 0 if each try was as the header says, 1 if not, 2 if the words are no allowance. */
+   Exit status 0 if each try was as the header says, 1 if not, 2 if the words are others. */
 #include "gateway.h"
 
 #include <stdio.h>
@@ -11,6 +12,9 @@
 #include <string.h>
 
 enum { TEXT = 65536, AROUND = 16, FILL = 0xa5, ALL = 300, NEAR = 8, STEPS = 8 };
+
+/* Either function of the header. */
+typedef size_t function(const uint8_t *, size_t, uint16_t, uint8_t *, size_t);
 
 static uint8_t text[TEXT];
 static uint8_t whole[HJALTROPA_SHEET];
@@ -37,16 +41,18 @@ static uint16_t allowed(int count, char **words) {
     char *end = NULL;
     unsigned long number = count < 2 ? HJALTROPA_ROUNDS : strtoul(words[1], &end, 10);
     if (2 < count || (end != NULL && (end == words[1] || *end != '\0')) || UINT16_MAX < number) {
-        fprintf(stderr, "usage: gateway [ALLOWANCE]\n");
+        fprintf(stderr, "usage: gateway [reach] [ALLOWANCE]\n");
         exit(2);
     }
     return (uint16_t)number;
 }
 
 int main(int count, char **words) {
-    uint16_t allowance = allowed(count, words);
+    int reach = 1 < count && strcmp(words[1], "reach") == 0;
+    function *ask = reach ? hjaltropa_reach : hjaltropa_sheet;
+    uint16_t allowance = allowed(count - reach, words + reach);
     size_t length = fread(text, 1, TEXT, stdin);
-    size_t size = hjaltropa_sheet(text, length, allowance, whole, sizeof whole);
+    size_t size = ask(text, length, allowance, whole, sizeof whole);
     if (ferror(stdin) || sizeof whole < size) {
         fprintf(stderr, "gateway: the plan can't be read, or its sheet is longer than HJALTROPA_SHEET\n");
         return 1;
@@ -57,7 +63,7 @@ int main(int count, char **words) {
         }
         uint8_t *buffer = tried + AROUND;
         memset(tried, FILL, sizeof tried);
-        size_t answered = hjaltropa_sheet(text, length, allowance, buffer, room);
+        size_t answered = ask(text, length, allowance, buffer, room);
         size_t written = room < size ? 0 : size;
         size_t behind = sizeof tried - AROUND - written;
         if (answered != size || memcmp(buffer, whole, written) != 0 || !untouched(tried, AROUND) || !untouched(buffer + written, behind)) {

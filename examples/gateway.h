@@ -1,8 +1,9 @@
-/* The answer sheet of a routing plan, for gateways in C and C++. Link libgateway.a, which `rt staticlib gateway` writes to target/staticlib/:
+/* The answer sheet and the reach sheet of a routing plan, for gateways in C and C++. Link libgateway.a, which `rt staticlib gateway` writes to
+   target/staticlib/:
 
        cc -std=c11 -O2 -o ask examples/ask.c target/staticlib/libgateway.a
 
-   ask.c asks one plan and prints its verdict, threads.c asks many at once, and gateway.c tries buffers of all lengths. */
+   ask.c asks one plan and prints its verdict; threads.c asks many at once, and gateway.c tries buffers of all lengths, both for either sheet. */
 #ifndef HJALTROPA_GATEWAY_H
 #define HJALTROPA_GATEWAY_H
 
@@ -16,16 +17,16 @@ extern "C" {
 /* Rounds that suffice for every plan: with this allowance no plan is refused 14. */
 #define HJALTROPA_ROUNDS 17409
 
-/* Bytes that suffice for every sheet. */
+/* Bytes that suffice for every sheet, and for every reach sheet. */
 #define HJALTROPA_SHEET 8128
 
 /* The longest text in bytes that is not refused 1. Who reads a text keeps a byte more, and hands on what came: then a longer text is refused,
    and never cut to one that is a plan. */
 #define HJALTROPA_TEXT 16384
 
-/* Bytes of stack that suffice for a call. Measured, not proved: the deepest call in examples/threads.c, a tree of depth 33, took 284,791 with
-   the library optimised for x86-64, as the toolchain compiles it; the rest is margin. What the caller's own functions take comes on top. The
-   main thread and most others have more than that; a thread that is given a small stack has to be given so much. */
+/* Bytes of stack that suffice for a call. Measured, not proved: the deepest call in examples/threads.c, hjaltropa_reach on a tree of depth 33,
+   took 304,631 with the library optimised for x86-64, as the toolchain compiles it; the rest is margin. What the caller's own functions take
+   comes on top. The main thread and most others have more than that; a thread that is given a small stack has to be given so much. */
 #define HJALTROPA_STACK 393216
 
 /* The length of the sheet of a text, within an allowance of rounds. Where the buffer is as long or longer, the sheet stands at its start
@@ -50,6 +51,15 @@ size_t hjaltropa_sheet(const uint8_t *text, size_t text_length, uint16_t allowan
        size_t size = hjaltropa_sheet(text, length, HJALTROPA_ROUNDS, sheet, sizeof sheet);
        int clear = 11 <= size && size <= sizeof sheet && memcmp(sheet + size - 11, "flow clear\n", 11) == 0;
 */
+
+/* The length of the reach sheet of a text: what each level may receive. All that is said of hjaltropa_sheet holds of this function too: the
+   length is returned in any case, a buffer that is shorter is unchanged, and HJALTROPA_SHEET bytes always suffice.
+
+   A line 23llhhcc, in hexadecimal digits, says that level ll may receive handle hh on channel cc, and on no smaller channel. There is one for
+   each level and each handle that it may receive on any channel, by level, then by handle; the last level is the outermost, 07. Behind them
+   stands the line `reach complete`. A text that hjaltropa_sheet refuses within the same allowance is refused here by the same two lines,
+   3fnnllll and `refused`. */
+size_t hjaltropa_reach(const uint8_t *text, size_t text_length, uint16_t allowance, uint8_t *buffer, size_t buffer_length);
 
 #ifdef __cplusplus
 }

@@ -1,9 +1,10 @@
-//! A gateway in Rust: prints the sheet of the plan on standard input, after
-//! trying buffers of many lengths, with bytes around them that have to stay.
+//! A gateway in Rust: prints the sheet, or the reach sheet, of the plan on
+//! standard input, after trying buffers of many lengths, with bytes around them
+//! that have to stay.
 //!
 //!     rustc --edition 2021 -O -o gateway examples/gateway.rs \
 //!         -C link-arg=target/staticlib/libgateway.a
-//!     ./gateway [ALLOWANCE]
+//!     ./gateway [reach] [ALLOWANCE]
 //!
 //! The allowance of rounds is 0 to 65,535; without it, as many are allowed as
 //! any plan needs.
@@ -27,15 +28,27 @@ extern "C" {
         buffer: *mut u8,
         buffer_length: usize,
     ) -> usize;
+    fn hjaltropa_reach(
+        text: *const u8,
+        text_length: usize,
+        allowance: u16,
+        buffer: *mut u8,
+        buffer_length: usize,
+    ) -> usize;
 }
 
-/// The length of a text's sheet; where the buffer is as long or longer, the
-/// sheet stands at its start, and otherwise the buffer is unchanged.
-fn sheet(text: &[u8], allowance: u16, buffer: &mut [u8]) -> usize {
-    // Two slices of Rust's are what the proved function asks for: it has no
-    // further demand on its caller.
+/// The length of a text's sheet, or reach sheet; where the buffer is as long or
+/// longer, it stands at its start, and otherwise the buffer is unchanged.
+fn answer(reach: bool, text: &[u8], allowance: u16, buffer: &mut [u8]) -> usize {
+    let function = if reach {
+        hjaltropa_reach
+    } else {
+        hjaltropa_sheet
+    };
+    // Two slices of Rust's are what the proved functions ask for: they have no
+    // further demand on their caller.
     unsafe {
-        hjaltropa_sheet(
+        function(
             text.as_ptr(),
             text.len(),
             allowance,
@@ -52,20 +65,23 @@ fn worth_trying(room: usize, size: usize) -> bool {
 }
 
 fn main() -> io::Result<()> {
-    let allowance = match env::args().nth(1) {
-        Some(word) => word.parse().expect("usage: gateway [ALLOWANCE]"),
+    let mut words = env::args().skip(1).peekable();
+    let reach = words.next_if_eq("reach").is_some();
+    let allowance = match words.next() {
+        Some(word) => word.parse().expect("usage: gateway [reach] [ALLOWANCE]"),
         None => ROUNDS,
     };
+    let sheet = |text: &[u8], buffer: &mut [u8]| answer(reach, text, allowance, buffer);
     let mut text = Vec::new();
     io::stdin().read_to_end(&mut text)?;
-    let size = sheet(&text, allowance, &mut []);
+    let size = sheet(&text, &mut []);
     assert!(size <= SHEET, "a sheet of {size} bytes");
     let mut whole = vec![0; size];
-    assert_eq!(sheet(&text, allowance, &mut whole), size);
+    assert_eq!(sheet(&text, &mut whole), size);
     for room in (0..=size + 1).filter(|room| worth_trying(*room, size)) {
         let mut tried = vec![FILL; AROUND + room + AROUND];
         let buffer = &mut tried[AROUND..AROUND + room];
-        assert_eq!(sheet(&text, allowance, buffer), size);
+        assert_eq!(sheet(&text, buffer), size);
         let written = if room < size { 0 } else { size };
         let mut wanted = vec![FILL; AROUND + room + AROUND];
         wanted[AROUND..AROUND + written].copy_from_slice(&whole[..written]);

@@ -1,7 +1,7 @@
-/* Asks the plans in files, all at once, and prints their sheets in the files' order.
+/* Asks the plans in files, all at once, and prints their sheets, or their reach sheets, in the files' order.
 
      cc -std=c11 -O2 -pthread -o threads examples/threads.c target/staticlib/libgateway.a
-     ./threads FILE..
+     ./threads [reach] FILE..
 
    Each plan is asked in a thread that has HJALTROPA_STACK bytes of stack and below them a page that nobody may touch, again and again until all
    have been asked many times, and each time the sheet has to be the one that it had when no other plan was asked. Before that the stack which a
@@ -34,6 +34,9 @@ struct asking {
     uintptr_t began; /* where in the stack the thread's own function stands */
 };
 
+/* The function of the header that is asked. */
+static size_t (*ask)(const uint8_t *, size_t, uint16_t, uint8_t *, size_t) = hjaltropa_sheet;
+
 static pthread_barrier_t start;
 static atomic_size_t unfinished; /* threads that have asked fewer than TIMES times */
 
@@ -46,7 +49,7 @@ static void *ask_alone(void *given) {
     struct asking *asking = given;
     uint8_t here;
     asking->began = (uintptr_t)&here;
-    asking->size = hjaltropa_sheet(asking->text, asking->length, HJALTROPA_ROUNDS, asking->sheet, sizeof asking->sheet);
+    asking->size = ask(asking->text, asking->length, HJALTROPA_ROUNDS, asking->sheet, sizeof asking->sheet);
     return NULL;
 }
 
@@ -56,7 +59,7 @@ static void *ask_among_others(void *given) {
     pthread_barrier_wait(&start);
     for (int times = 0; times < TIMES || 0 < unfinished; times++) {
         memset(asking->again, FILL, sizeof asking->again);
-        size_t size = hjaltropa_sheet(asking->text, asking->length, HJALTROPA_ROUNDS, asking->again, sizeof asking->again);
+        size_t size = ask(asking->text, asking->length, HJALTROPA_ROUNDS, asking->again, sizeof asking->again);
         asking->same &= size == asking->size && memcmp(asking->again, asking->sheet, size) == 0;
         unfinished -= times + 1 == TIMES;
     }
@@ -109,11 +112,16 @@ static void read_plan(const char *file, struct asking *asking) {
 }
 
 int main(int count, char **words) {
+    if (1 < count && strcmp(words[1], "reach") == 0) {
+        ask = hjaltropa_reach;
+        count--;
+        words++;
+    }
     size_t plans = count < 2 ? 0 : (size_t)count - 1;
     size_t deepest = 0;
     struct asking *askings = calloc(plans, sizeof *askings);
     if (plans == 0 || askings == NULL || pthread_barrier_init(&start, NULL, (unsigned)plans) != 0) {
-        trouble("usage: threads FILE..");
+        trouble("usage: threads [reach] FILE..");
     }
     for (size_t i = 0; i < plans; i++) {
         read_plan(words[i + 1], &askings[i]);

@@ -1,2 +1,2 @@
--- The law behind the exported function's proof.
+-- The laws behind the exported functions' proofs.
 pub mod Calls

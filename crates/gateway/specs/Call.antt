@@ -5,14 +5,25 @@ use mathlib.Core.Path.{_≡_}
 use mathlib.Core.List.{List, _++_}
 use lib.ListN.{length, drop}
 use Rattle.sheet.specs.Sheet.{SheetFor}
+use Rattle.reach_sheet.specs.ReachSheet.{ReachSheetFor}
 
--- by the text, the allowance of rounds and what the buffer held before
-pub record Answers (text : List ℕ) (allowance : ℕ) (before : List ℕ) (size : ℕ) (after : List ℕ) : Type 0 where
-  pub sheet : List ℕ
-  pub of-text : SheetFor text allowance sheet
+-- by the sheet and what the buffer held before
+pub record Fits (sheet before : List ℕ) (size : ℕ) (after : List ℕ) : Type 0 where
   -- the sheet's length, whether it fits or not
   pub long : size ≡ length sheet
   -- it does not fit: the buffer is unchanged
   pub unchanged : length before < length sheet → after ≡ before
   -- it fits: it stands at the buffer's start, and every byte past it stays
   pub written : length sheet ≤ length before → after ≡ sheet ++ drop (length sheet) before
+
+-- the same, by the text and the allowance of rounds
+pub record Answers (text : List ℕ) (allowance : ℕ) (before : List ℕ) (size : ℕ) (after : List ℕ) : Type 0 where
+  pub sheet : List ℕ
+  pub of-text : SheetFor text allowance sheet
+  pub fits : Fits sheet before size after
+
+-- the same, with the reach sheet
+pub record AnswersReach (text : List ℕ) (allowance : ℕ) (before : List ℕ) (size : ℕ) (after : List ℕ) : Type 0 where
+  pub sheet : List ℕ
+  pub of-text : ReachSheetFor text allowance sheet
+  pub fits : Fits sheet before size after

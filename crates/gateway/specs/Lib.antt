@@ -1,2 +1,2 @@
--- What the exported function answers.
+-- What the exported functions answer.
 pub mod Call

@@ -1,5 +1,6 @@
-// The sheet for gateways that are written in another language: one function, exported under a C name, over numbers and lent bytes.
-ghost use Rattle.gateway.specs.Call.{Answers};
+// The sheet and the reach sheet for gateways that are written in another language: two functions, exported under C names, over numbers and lent
+// bytes.
+ghost use Rattle.gateway.specs.Call.{Answers, AnswersReach};
 
 // The length of the sheet of a text within an allowance of rounds. Where the buffer is as long or longer, the sheet stands at its start and
 // nothing past it is changed; where it is shorter, nothing of it is changed.
@@ -8,5 +9,14 @@ pub extern "C" fn hjaltropa_sheet(text: &[u8], allowance: u16, buffer: &mut [u8]
     ensures { λ r. ⌜ Answers (now (text .entry)) allowance (now (buffer .entry)) r (now (buffer .exit)) ⌝ }
 {
     let written = sheet::write(text, allowance, buffer);
+    sheet::length_in(written)
+}
+
+// The same for the reach sheet.
+#[no_mangle]
+pub extern "C" fn hjaltropa_reach(text: &[u8], allowance: u16, buffer: &mut [u8]) -> usize
+    ensures { λ r. ⌜ AnswersReach (now (text .entry)) allowance (now (buffer .entry)) r (now (buffer .exit)) ⌝ }
+{
+    let written = reach_sheet::write(text, allowance, buffer);
     sheet::length_in(written)
 }
