@@ -1,6 +1,7 @@
 # How ./sheet is called: its options, files, links, input and output; read by tests/sheet.sh.
 
 usage='usage: ./sheet [--words] [--source | --plan] [FILE]
+       ./sheet --reaches HANDLE [--level LEVEL] [--source | --plan] [FILE]
        ./sheet --each [--source | --plan] FILE..'
 
 # Standard input, and options in any place.
@@ -38,10 +39,21 @@ expect 'the version, whatever else' 0 "$work/both" ./sheet --words "$work/none" 
     cat <<'END'
 
 The answer sheet of a routing plan, from the proved program: can a handle ever go down?
+With --reaches, the answer to one question alone: can this handle ever reach that level?
 The program is proved and built first where its source has changed. Without FILE, or
 where FILE is -, the plan is read from standard input.
 
+  ./sheet --reaches 2 --level 0 examples/keeps.plan
+              can handle 2 ever reach level 0? A sentence, and its own exit status
+  ./sheet --words examples/breaks.plan
+              the whole sheet, and what it says
+
   --words     after the sheet, say in sentences what it says
+  --reaches   say whether a level may receive HANDLE, a channel's number in decimal, and
+              on which channel; no sheet. Without --level, a line for each level of the
+              plan and one for the whole relay
+  --level     the LEVEL that --reaches asks after: 0 to 6, or 7 or '#' for the whole
+              relay, outside and desks together
   --source    the text is a source: its remarks (# to the line's end), blanks, tabs and a
               carriage return at a line's end are left out, and A-F count as a-f
   --plan      the text is a plan's text, taken strictly
@@ -54,7 +66,9 @@ Without --source and --plan, a text that begins with # or with a byte order mark
 source, and any other is a plan's text.
 
 Exit status: 0 clear, 1 a breach, 2 refused, 3 trouble of its own; with --each the
-highest of all. docs/PLAN.md says how a plan is written and how a sheet is read.
+highest of all. With --reaches 0 never, 1 may reach; without --level, 1 where any level
+may receive the handle, whatever the line of the whole relay says.
+docs/PLAN.md says how a plan is written and how a sheet is read.
 END
 } >"$work/both"
 expect 'help' 0 "$work/both" ./sheet --help

@@ -4,12 +4,14 @@ use std::ffi::OsString;
 use std::path::Path;
 
 use crate::arguments::{self, Request, USAGE};
+use crate::head::Head;
 use crate::input::Input;
 use crate::output::{message, message_about, print};
 use crate::program;
-use crate::proving::prove;
+use crate::proving::{prove, Program, Proved};
+use crate::reach::{self, Question, Reach, Received};
 use crate::refusal::{account, Account};
-use crate::sheet::{self, Breach, Sets, Sheet};
+use crate::sheet::{self, Breach, Refusal, Sets, Sheet, OUTSIDE};
 use crate::text::{Form, Text};
 use crate::tree::sends_outside;
 use crate::words;
@@ -24,10 +26,21 @@ const VERSION: &str = concat!(
 
 const HELP: &str = "
 The answer sheet of a routing plan, from the proved program: can a handle ever go down?
+With --reaches, the answer to one question alone: can this handle ever reach that level?
 The program is proved and built first where its source has changed. Without FILE, or
 where FILE is -, the plan is read from standard input.
 
+  ./sheet --reaches 2 --level 0 examples/keeps.plan
+              can handle 2 ever reach level 0? A sentence, and its own exit status
+  ./sheet --words examples/breaks.plan
+              the whole sheet, and what it says
+
   --words     after the sheet, say in sentences what it says
+  --reaches   say whether a level may receive HANDLE, a channel's number in decimal, and
+              on which channel; no sheet. Without --level, a line for each level of the
+              plan and one for the whole relay
+  --level     the LEVEL that --reaches asks after: 0 to 6, or 7 or '#' for the whole
+              relay, outside and desks together
   --source    the text is a source: its remarks (# to the line's end), blanks, tabs and a
               carriage return at a line's end are left out, and A-F count as a-f
   --plan      the text is a plan's text, taken strictly
@@ -40,14 +53,21 @@ Without --source and --plan, a text that begins with # or with a byte order mark
 source, and any other is a plan's text.
 
 Exit status: 0 clear, 1 a breach, 2 refused, 3 trouble of its own; with --each the
-highest of all. docs/PLAN.md says how a plan is written and how a sheet is read.
+highest of all. With --reaches 0 never, 1 may reach; without --level, 1 where any level
+may receive the handle, whatever the line of the whole relay says.
+docs/PLAN.md says how a plan is written and how a sheet is read.
 ";
+
+/// What is told of a sheet that can't be this plan's.
+const UNFITTING: &str = "the sheet does not fit the plan";
 
 /// The exit statuses, from the best to the worst.
 #[derive(Clone, Copy, PartialEq, Eq, PartialOrd, Ord)]
 pub enum Status {
-    Clear = 0,
-    Breach = 1,
+    /// Clear, or never.
+    Good = 0,
+    /// A breach, or may reach.
+    Bad = 1,
     Refused = 2,
     Trouble = 3,
 }
@@ -69,8 +89,8 @@ impl Verdict {
     /// The exit status that tells this verdict.
     fn status(&self) -> Status {
         match self {
-            Verdict::Clear(_) => Status::Clear,
-            Verdict::Breach(_) => Status::Breach,
+            Verdict::Clear(_) => Status::Good,
+            Verdict::Breach(_) => Status::Bad,
             Verdict::Refused(_) => Status::Refused,
         }
     }
@@ -88,9 +108,14 @@ impl Verdict {
 /// Does what the words after `./sheet` ask for; trouble has been told on standard error.
 pub fn run(root: &Path, arguments: impl Iterator<Item = OsString>) -> Status {
     let outcome = match arguments::parse(arguments) {
-        Ok(Request::Help) => print([USAGE, HELP].concat().as_bytes()).map(|()| Status::Clear),
-        Ok(Request::Version) => print(VERSION.as_bytes()).map(|()| Status::Clear),
+        Ok(Request::Help) => print([USAGE, HELP].concat().as_bytes()).map(|()| Status::Good),
+        Ok(Request::Version) => print(VERSION.as_bytes()).map(|()| Status::Good),
         Ok(Request::One { words, form, input }) => one(root, words, form, &input),
+        Ok(Request::Reaches {
+            question,
+            form,
+            input,
+        }) => reaches(root, &question, form, &input),
         Ok(Request::Each { form, inputs }) => each(root, form, &inputs),
         Err(what) => Err(format!("{what}\n{}", USAGE.trim_end())),
     };
@@ -102,30 +127,20 @@ pub fn run(root: &Path, arguments: impl Iterator<Item = OsString>) -> Status {
 
 /// Prints the sheet of one plan, with words if they are asked for.
 fn one(root: &Path, words: bool, form: Option<Form>, input: &Input) -> Result<Status, String> {
-    let about = |what: String| {
-        message_about(&input.name(), &what);
-        Status::Trouble
+    let text = match read(input, form) {
+        Ok(text) => text,
+        Err(what) => return Ok(trouble_about(input, &what)),
     };
-    // All is read before the lock is taken, so that nobody waits for what this waits for.
-    let text = match input.read() {
-        Ok(written) => Text::new(written, form),
-        Err(what) => return Ok(about(what)),
-    };
-    let _proved = prove(root)?;
-    let told = answer(root, &text).and_then(|Answer { mut sheet, verdict }| {
+    let proved = prove(root, Program::Plan)?;
+    let told = answer(&proved, &text).and_then(|Answer { mut sheet, verdict }| {
         if words {
-            let sentences = sentences(&verdict, &text)?;
-            sheet.extend(
-                sentences
-                    .iter()
-                    .flat_map(|line| line.bytes().chain([b'\n'])),
-            );
+            sheet.extend(lines(&sentences(&verdict, &text)?));
         }
         Ok((sheet, verdict))
     });
     let (output, verdict) = match told {
         Ok(told) => told,
-        Err(what) => return Ok(about(what)),
+        Err(what) => return Ok(trouble_about(input, &what)),
     };
     if text.is_source() && matches!(verdict, Verdict::Refused(_)) {
         message_about(&input.name(), &verdict.in_brief());
@@ -134,17 +149,35 @@ fn one(root: &Path, words: bool, form: Option<Form>, input: &Input) -> Result<St
     Ok(verdict.status())
 }
 
+/// Prints the answer to a question of one plan.
+fn reaches(
+    root: &Path,
+    question: &Question,
+    form: Option<Form>,
+    input: &Input,
+) -> Result<Status, String> {
+    let text = match read(input, form) {
+        Ok(text) => text,
+        Err(what) => return Ok(trouble_about(input, &what)),
+    };
+    let proved = prove(root, Program::Reaches)?;
+    match reply(&proved, question, &text) {
+        Ok((status, sentences)) => {
+            print(&lines(&sentences))?;
+            Ok(status)
+        }
+        Err(what) => Ok(trouble_about(input, &what)),
+    }
+}
+
 /// Prints a line for each of many plans; its status is the worst of theirs.
 fn each(root: &Path, form: Option<Form>, inputs: &[Input]) -> Result<Status, String> {
-    // As for one: read first, and then take the lock.
-    let texts: Vec<Result<Text, String>> = inputs
-        .iter()
-        .map(|input| Ok(Text::new(input.read()?, form)))
-        .collect();
-    let _proved = prove(root)?;
-    let mut worst = Status::Clear;
+    // All is read before the lock is taken, so that nobody waits for what this waits for.
+    let texts: Vec<Result<Text, String>> = inputs.iter().map(|input| read(input, form)).collect();
+    let proved = prove(root, Program::Plan)?;
+    let mut worst = Status::Good;
     for (input, text) in inputs.iter().zip(texts) {
-        let (status, told) = match text.and_then(|text| answer(root, &text)) {
+        let (status, told) = match text.and_then(|text| answer(&proved, &text)) {
             Ok(answer) => (answer.verdict.status(), answer.verdict.in_brief()),
             Err(what) => (Status::Trouble, format!("trouble: {what}")),
         };
@@ -154,27 +187,137 @@ fn each(root: &Path, form: Option<Form>, inputs: &[Input]) -> Result<Status, Str
     Ok(worst)
 }
 
+/// The text that is read from a place, or why it can't be.
+fn read(input: &Input, form: Option<Form>) -> Result<Text, String> {
+    Ok(Text::new(input.read()?, form))
+}
+
+/// Tells on standard error why there is no answer to the text from a place.
+fn trouble_about(input: &Input, what: &str) -> Status {
+    message_about(&input.name(), what);
+    Status::Trouble
+}
+
 /// The answer of the proved program to a text, or why there is none.
-fn answer(root: &Path, text: &Text) -> Result<Answer, String> {
-    let sheet = program::answer(root, &text.plan())?;
+fn answer(proved: &Proved, text: &Text) -> Result<Answer, String> {
+    let sheet = program::answer(proved, &text.plan())?;
     let verdict = match sheet::parse(&sheet).ok_or("the program printed no sheet")? {
         Sheet::Clear(sets) => Verdict::Clear(sets),
         Sheet::Breach(breach) => Verdict::Breach(breach),
-        Sheet::Refused(refusal) => {
-            Verdict::Refused(account(&refusal, text).ok_or("the sheet does not fit the plan")?)
-        }
+        Sheet::Refused(refusal) => Verdict::Refused(told(&refusal, text)?),
     };
     Ok(Answer { sheet, verdict })
+}
+
+/// The account of a refusal of a text, or that it is of another.
+fn told(refusal: &Refusal, text: &Text) -> Result<Account, String> {
+    Ok(account(refusal, text).ok_or(UNFITTING)?)
+}
+
+/// What `--reaches` says of a text, with the status that tells it, or why there is no answer.
+fn reply(
+    proved: &Proved,
+    question: &Question,
+    text: &Text,
+) -> Result<(Status, Vec<String>), String> {
+    let plan = text.plan();
+    let output = program::answer(proved, &plan)?;
+    let received = match reach::parse(&output).ok_or("the program printed no reach sheet")? {
+        Reach::Complete(received) => received,
+        Reach::Refused(refusal) => {
+            let sentence = words::refused(&told(&refusal, text)?, text.is_source());
+            return Ok((Status::Refused, vec![sentence]));
+        }
+    };
+    let head = Head::of(&plan)
+        .filter(|head| received.fits(head))
+        .ok_or(UNFITTING)?;
+    question.asks_of(&head)?;
+    Ok(answer_to(question, &received, &head))
+}
+
+/// The sentences that answer a question, and the status that tells them.
+fn answer_to(question: &Question, received: &Received, head: &Head) -> (Status, Vec<String>) {
+    let handle = question.handle;
+    let channel = |level: u8| received.channel(level, handle);
+    let (levels, told_only) = match question.level {
+        Some(level) => (level..=level, None),
+        None => (0..=head.highest_level, Some(OUTSIDE)),
+    };
+    let may = levels.clone().any(|level| channel(level).is_some());
+    let sentences = levels
+        .chain(told_only)
+        .map(|level| words::reach(handle, level, channel(level)));
+    let status = if may { Status::Bad } else { Status::Good };
+    (status, sentences.collect())
+}
+
+/// The bytes of sentences, each on a line of its own.
+fn lines(sentences: &[String]) -> Vec<u8> {
+    let lines = sentences.iter();
+    lines.flat_map(|line| line.bytes().chain([b'\n'])).collect()
 }
 
 /// What `--words` says of a verdict on a text, or why it can't.
 fn sentences(verdict: &Verdict, text: &Text) -> Result<Vec<String>, String> {
     match verdict {
         Verdict::Clear(sets) => {
-            let sends = sends_outside(&text.plan()).ok_or("the sheet does not fit the plan")?;
+            let sends = sends_outside(&text.plan()).ok_or(UNFITTING)?;
             Ok(words::clear(&sends, sets))
         }
         Verdict::Breach(breach) => Ok(words::breach(breach)),
         Verdict::Refused(account) => Ok(vec![words::refused(account, text.is_source())]),
+    }
+}
+
+#[cfg(test)]
+mod tests {
+    use super::*;
+
+    #[test]
+    fn every_level_is_told_and_the_whole_relay_does_not_count() {
+        let sheet = b"23000311\n23020512\n23070310\n23070410\n23070512\nreach complete\n";
+        let Some(Reach::Complete(received)) = reach::parse(sheet) else {
+            panic!("no reach sheet");
+        };
+        let head = Head {
+            channels: 20,
+            highest_level: 2,
+            free_names: 0,
+        };
+        let answer = |handle, level| {
+            let (status, sentences) = answer_to(&Question { handle, level }, &received, &head);
+            (status as u8, sentences)
+        };
+        for (handle, level, status, channels) in [
+            (
+                3,
+                None,
+                1,
+                &[(0, Some(17)), (1, None), (2, None), (7, Some(16))][..],
+            ),
+            (
+                4,
+                None,
+                0,
+                &[(0, None), (1, None), (2, None), (7, Some(16))],
+            ),
+            (
+                5,
+                None,
+                1,
+                &[(0, None), (1, None), (2, Some(18)), (7, Some(18))],
+            ),
+            (6, None, 0, &[(0, None), (1, None), (2, None), (7, None)]),
+            (3, Some(0), 1, &[(0, Some(17))]),
+            (3, Some(2), 0, &[(2, None)]),
+            (4, Some(7), 1, &[(7, Some(16))]),
+            (6, Some(7), 0, &[(7, None)]),
+        ] {
+            let said = channels
+                .iter()
+                .map(|(level, channel)| words::reach(handle, *level, *channel));
+            assert_eq!(answer(handle, level), (status, said.collect()));
+        }
     }
 }

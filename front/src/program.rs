@@ -1,22 +1,22 @@
-//! The proved program: has it answer a plan's text.
+//! The proved programs: has one answer a plan's text.
 
 use std::io::{self, ErrorKind, Read, Write};
-use std::path::Path;
 use std::process::{Child, Command, Stdio};
 use std::thread;
 
-const PROGRAM: &str = "target/bin/plan";
+use crate::proving::Proved;
 
-/// What the program prints for a plan's text, or why there is no whole answer.
-pub fn answer(root: &Path, plan: &[u8]) -> Result<Vec<u8>, String> {
-    if !root.join(PROGRAM).is_file() {
+/// What a program prints for a plan's text, or why there is no whole answer.
+pub fn answer(proved: &Proved, plan: &[u8]) -> Result<Vec<u8>, String> {
+    let program = format!("target/bin/{}", proved.program.name());
+    if !proved.root.join(&program).is_file() {
         return Err(format!(
-            "{PROGRAM} is gone, though it is proved: remove target/ and ask again"
+            "{program} is gone, though it is proved: remove target/ and ask again"
         ));
     }
-    let mut child = Command::new(root.join("run"))
-        .arg(PROGRAM)
-        .current_dir(root)
+    let mut child = Command::new(proved.root.join("run"))
+        .arg(&program)
+        .current_dir(proved.root)
         .stdin(Stdio::piped())
         .stdout(Stdio::piped())
         .spawn()

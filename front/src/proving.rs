@@ -1,5 +1,5 @@
-//! Has the program proved and built from the source as it is now, one `./sheet`
-//! at a time.
+//! Has a program proved and built from the source as it is now, one `./sheet` at
+//! a time.
 
 use std::fs::{self, File, OpenOptions, TryLockError};
 use std::io::{self, BufRead, BufReader, ErrorKind, PipeReader};
@@ -27,19 +27,44 @@ const FOLDERS: [&str; 6] = [
     "target/bin",
 ];
 
+/// The programs, each of a crate of its name.
+#[derive(Clone, Copy)]
+pub enum Program {
+    /// Prints a plan's sheet.
+    Plan,
+    /// Prints a plan's reach sheet.
+    Reaches,
+}
+
+impl Program {
+    /// The program's name, and its crate's.
+    pub fn name(self) -> &'static str {
+        match self {
+            Program::Plan => "plan",
+            Program::Reaches => "reaches",
+        }
+    }
+}
+
 /// A program proved from the source as it is, which no other `./sheet` replaces while this lives.
-pub struct Proved {
+pub struct Proved<'a> {
+    pub root: &'a Path,
+    pub program: Program,
     _lock: File,
 }
 
-/// Proves and builds the program where its source has changed, or says why that can't be.
-pub fn prove(root: &Path) -> Result<Proved, String> {
+/// Proves and builds a program where its source has changed, or says why that can't be.
+pub fn prove(root: &Path, program: Program) -> Result<Proved<'_>, String> {
     let lock = lock(root).map_err(|error| format!("crates.txt can't be locked: {error}"))?;
     write_everywhere(root).map_err(|what| {
         format!("this clone can't be written, so nothing is proved in it: {what}")
     })?;
-    check(root, &lock)?;
-    Ok(Proved { _lock: lock })
+    check(root, program, &lock)?;
+    Ok(Proved {
+        root,
+        program,
+        _lock: lock,
+    })
 }
 
 /// The lock that each `./sheet` of a clone takes: on a file that is always there, and that rt never
@@ -86,9 +111,9 @@ fn append_to_all(folder: &Path) -> io::Result<()> {
     Ok(())
 }
 
-/// Runs `rt check plan` and shows its lines as they come, or says that it failed.
-fn check(root: &Path, lock: &File) -> Result<(), String> {
-    let started = start(root, lock);
+/// Runs `rt check` on a program and shows its lines as they come, or says that it failed.
+fn check(root: &Path, program: Program, lock: &File) -> Result<(), String> {
+    let started = start(root, program, lock);
     let (reader, mut rt) = started.map_err(|error| match error.kind() {
         ErrorKind::NotFound => "the toolchain is not there: no command rt".to_owned(),
         _ => format!("rt could not be started: {error}"),
@@ -112,18 +137,19 @@ fn check(root: &Path, lock: &File) -> Result<(), String> {
         Ok(status) => {
             news.show();
             Err(format!(
-                "the program could not be proved: 'rt check plan' ended with {status}"
+                "the program could not be proved: 'rt check {}' ended with {status}",
+                program.name()
             ))
         }
         Err(error) => Err(format!("rt's end could not be seen: {error}")),
     }
 }
 
-/// Starts `rt check plan`, and gives what it prints on either output.
-fn start(root: &Path, lock: &File) -> io::Result<(PipeReader, Child)> {
+/// Starts `rt check` on a program, and gives what it prints on either output.
+fn start(root: &Path, program: Program, lock: &File) -> io::Result<(PipeReader, Child)> {
     let (reader, writer) = io::pipe()?;
     let rt = Command::new("rt")
-        .args(["check", "plan"])
+        .args(["check", program.name()])
         .current_dir(root)
         // Rt reads nothing: as its input the lock outlives this process, should it be killed.
         .stdin(lock.try_clone()?)

@@ -10,8 +10,13 @@ pub const OUTSIDE: u8 = 7;
 /// The levels that a desk may have.
 pub const LEVELS: std::ops::RangeInclusive<u8> = 0..=6;
 
-const CHANNELS: u8 = 32;
+/// How many channels a plan may have.
+pub const CHANNELS: u8 = 32;
+
 const BINDERS: u8 = 32;
+
+/// The last line of a refused plan's sheet, of either kind.
+pub const REFUSED: &[u8] = b"refused";
 
 /// A set of channels, channel c as bit c.
 type Bits = u32;
@@ -111,17 +116,9 @@ fn has(bits: Bits, channel: u8) -> bool {
 /// the verdict of one mind with the last line and with the sets. So a program that has gone wrong is
 /// not believed where its own sets belie its verdict.
 pub fn parse(output: &[u8]) -> Option<Sheet> {
-    let mut lines: Vec<&[u8]> = output
-        .strip_suffix(b"\n")?
-        .split(|byte| *byte == b'\n')
-        .collect();
-    let phrase = lines.pop()?;
-    let frames: Vec<Vec<u8>> = lines.into_iter().map(bytes_of).collect::<Option<_>>()?;
-    if phrase == b"refused" {
-        return match frames.as_slice() {
-            [frame] => refusal(frame).map(Sheet::Refused),
-            _ => None,
-        };
+    let (frames, phrase) = parts(output)?;
+    if phrase == REFUSED {
+        return refusal(&frames).map(Sheet::Refused);
     }
     let [count, between @ .., verdict] = frames.as_slice() else {
         return None;
@@ -136,6 +133,17 @@ pub fn parse(output: &[u8]) -> Option<Sheet> {
         (b"flow breach", [0x30, 0x00, named @ ..]) => breach(named, &sets).map(Sheet::Breach),
         _ => None,
     }
+}
+
+/// The bytes of each line but the last, and the last line, the phrase, of either kind of sheet.
+pub fn parts(output: &[u8]) -> Option<(Vec<Vec<u8>>, &[u8])> {
+    let mut lines: Vec<&[u8]> = output
+        .strip_suffix(b"\n")?
+        .split(|byte| *byte == b'\n')
+        .collect();
+    let phrase = lines.pop()?;
+    let frames = lines.into_iter().map(bytes_of).collect::<Option<_>>()?;
+    Some((frames, phrase))
 }
 
 /// The sets of the lines between the count and the verdict, if they ascend and none is empty.
@@ -164,7 +172,7 @@ fn sets(frames: &[Vec<u8>]) -> Option<Sets> {
 }
 
 /// Whether sheets have sets for a level, or the outside, and a channel.
-fn has_sets(level: u8, channel: u8) -> bool {
+pub fn has_sets(level: u8, channel: u8) -> bool {
     (LEVELS.contains(&level) || level == OUTSIDE) && channel < CHANNELS
 }
 
@@ -182,9 +190,12 @@ fn breach(named: &[u8], sets: &Sets) -> Option<Breach> {
     sets.have(&breach).then_some(breach)
 }
 
-/// The refusal that the one frame of a refused plan's sheet gives.
-fn refusal(frame: &[u8]) -> Option<Refusal> {
-    match *frame {
+/// The refusal that the one frame of a refused plan's sheet, of either kind, gives.
+pub fn refusal(frames: &[Vec<u8>]) -> Option<Refusal> {
+    let [frame] = frames else {
+        return None;
+    };
+    match frame[..] {
         [0x3f, number, high, low] => Some(Refusal {
             number,
             line: u16::from_be_bytes([high, low]),

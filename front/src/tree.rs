@@ -4,6 +4,7 @@
 use std::collections::BTreeMap;
 
 use crate::digits::bytes_of;
+use crate::head::Head;
 
 /// What a name means.
 #[derive(Clone, Copy, Debug, PartialEq, Eq)]
@@ -42,15 +43,12 @@ impl Place {
 /// The sends that stand in no bracket, in text order; nothing for a text that is no plan.
 pub fn sends_outside(plan: &[u8]) -> Option<Vec<SendNode>> {
     let lines = plan.strip_suffix(b"\n")?.split(|byte| *byte == b'\n');
-    let mut frames = lines.map(bytes_of);
+    let mut frames = lines.map(bytes_of).skip(1);
     let mut root = Place {
         meanings: BTreeMap::new(),
         bracketed: false,
     };
-    let [0x01, _, _, _, _, free_names] = frames.next()??[..] else {
-        return None;
-    };
-    for _ in 0..free_names {
+    for _ in 0..Head::of(plan)?.free_names {
         let [0x02, name, channel] = frames.next()??[..] else {
             return None;
         };

@@ -2,7 +2,7 @@
 
 use crate::outside::{receivers, sent, Pair};
 use crate::refusal::{Account, Place};
-use crate::sheet::{Breach, Sets};
+use crate::sheet::{Breach, Sets, OUTSIDE};
 use crate::tree::SendNode;
 
 /// The sentences after a clear sheet, for a plan with these sends in no bracket.
@@ -40,6 +40,21 @@ pub fn breach(breach: &Breach) -> Vec<String> {
         ),
         "There may be other breaches: mend this one, and ask again.".to_owned(),
     ]
+}
+
+/// The sentence on a handle at a level or, as `OUTSIDE`, in the whole relay, with the channel on
+/// which it may be received there, if there is one.
+pub fn reach(handle: u8, level: u8, channel: Option<u8>) -> String {
+    match (level, channel) {
+        (OUTSIDE, Some(channel)) => {
+            format!("Handle {handle} may be received somewhere in the relay, on channel {channel}.")
+        }
+        (OUTSIDE, None) => format!("Handle {handle} is received nowhere in the relay."),
+        (_, Some(channel)) => {
+            format!("Handle {handle} may reach level {level}, on channel {channel}.")
+        }
+        (_, None) => format!("Handle {handle} never reaches level {level}."),
+    }
 }
 
 /// The sentence after a refusal of a plan's text or of a source.
@@ -106,6 +121,22 @@ fn levels(levels: &[u8]) -> String {
 #[cfg(test)]
 mod tests {
     use super::*;
+
+    #[test]
+    fn a_handle_is_said_to_reach_a_level_or_the_relay() {
+        for (level, channel, said) in [
+            (5, Some(17), "Handle 29 may reach level 5, on channel 17."),
+            (5, None, "Handle 29 never reaches level 5."),
+            (
+                OUTSIDE,
+                Some(17),
+                "Handle 29 may be received somewhere in the relay, on channel 17.",
+            ),
+            (OUTSIDE, None, "Handle 29 is received nowhere in the relay."),
+        ] {
+            assert_eq!(reach(29, level, channel), said);
+        }
+    }
 
     #[test]
     fn levels_are_listed_as_people_do() {
