@@ -1,7 +1,8 @@
 #!/bin/sh
 # Holds the pages against the program and the definitions: every example of docs/PLAN.md and docs/ANALYSIS.md byte for byte, the tables of frames,
 # limits, refusals and edges, the tables of rounds, the definitions that are cited, README's tables of sheet lines, and the examples against
-# their sources. Run from the root, with target/bin/plan built; an example with an allowance of its own goes through target/bin/batch.
+# their sources. Run from the root, with target/bin/plan built; a reach sheet is held against target/bin/reaches, and an example with an allowance
+# of its own goes through target/bin/batch.
 set -u
 LC_ALL=C
 export LC_ALL
@@ -42,15 +43,27 @@ tell() {
     done <"$1"
 }
 
-# answer TEXT ALLOWANCE: the sheet that the program prints, with `-` as the allowance for that of plan.
+# program KIND ALLOWANCE: the program that prints the sheet or the reach sheet, as the kind says, with `-` as the allowance for their own.
+program() {
+    case $1,$2 in
+        sheet,-) echo target/bin/plan ;;
+        reach,-) echo target/bin/reaches ;;
+        *) echo target/bin/batch ;;
+    esac
+}
+
+# answer TEXT KIND ALLOWANCE: the sheet or the reach sheet that the program prints. Batch prints both, the reach sheet behind the sheet.
 answer() {
-    if [ "$2" = - ]; then
-        ./run target/bin/plan <"$1"
+    if [ "$3" = - ]; then
+        ./run "$(program "$2" -)" <"$1"
     else
         {
-            printf '%08x%08x\n' $(($(wc -c <"$1"))) "$2"
+            printf '%08x%08x\n' $(($(wc -c <"$1"))) "$3"
             cat "$1"
-        } | ./run target/bin/batch
+        } | ./run target/bin/batch | awk -v kind="$2" '
+            BEGIN { part = "sheet" }
+            part == kind
+            /^(flow clear|flow breach|refused)$/ { part = "reach" }'
     fi
 }
 
@@ -92,32 +105,34 @@ spell='
     function begin_text(name, end) { file = name; ending = end; many = 0; printf "" > file }
     function end_text(unended) { if (many && !unended) printf "%s", ending > file; close(file) }'
 
-# pairs PAGE: each pair as NAME.N.text and NAME.N.sheet in the work folder, and a line of NAME.index for it: N, the line, the allowance, the heading.
+# pairs PAGE: each plan as NAME.N.text in the work folder, its sheet as NAME.N.sheet and its reach sheet as NAME.N.reach, one of them or both, and a
+# line of NAME.index for it: N, the line, the allowance, the heading.
 pairs() {
     awk -v to="$work/$1" "$spell"'
         function bad(why) { print "fault", FILENAME ":" start ": " why > (to ".said") }
         function block(   word, words, i, option) {
             words = split(info, word, " ")
             if (word[1] == "text") return
-            if (word[1] == "sheet") {
-                if (!pending) { bad("a sheet without its plan"); return }
-                begin_text(to "." pending ".sheet", "\n")
+            if (word[1] == "sheet" || word[1] == "reach") {
+                if (!number || (number, word[1]) in has) { bad("a " word[1] " without its plan"); return }
+                begin_text(to "." number "." word[1], "\n")
                 for (i = 1; i <= size; i++) spell_line(body[i], 0)
                 end_text(0)
-                print pending, place, allowance, heading > (to ".index")
+                if (pending) print number, place, allowance, heading > (to ".index")
+                has[number, word[1]] = 1
                 pending = 0
                 return
             }
-            if (word[1] != "plan") { bad("a block that is no plan, sheet or text: " info); return }
+            if (word[1] != "plan") { bad("a block that is no plan, sheet, reach or text: " info); return }
             if (pending) bad("no sheet for the plan at line " place)
-            pending = ++number; place = start; allowance = "-"
+            number++; pending = 1; place = start; allowance = "-"
             for (i in option) delete option[i]
             for (i = 2; i <= words; i++) {
                 if (word[i] == "allowance" && word[i + 1] ~ /^[0-9]+$/) allowance = word[++i]
                 else if (word[i] ~ /^(counted|unended|crlf)$/) option[word[i]] = 1
                 else bad("a word that this test does not know: " word[i])
             }
-            begin_text(to "." pending ".text", "crlf" in option ? "\r\n" : "\n")
+            begin_text(to "." number ".text", "crlf" in option ? "\r\n" : "\n")
             for (i = 1; i <= size; i++) spell_line(body[i], "counted" in option)
             end_text("unended" in option)
         }
@@ -136,18 +151,32 @@ pairs() {
 for page in PLAN ANALYSIS; do
     pairs $page
     while read -r number line allowance heading; do
-        if [ "$allowance" != - ] && [ ! -x target/bin/batch ]; then
-            fault "docs/$page.md:$line: not tried: target/bin/batch is not built"
-            continue
-        fi
-        answer "$work/$page.$number.text" "$allowance" >"$work/out"
-        same "docs/$page.md:$line: the program prints another sheet" "$work/$page.$number.sheet" "$work/out"
+        for kind in sheet reach; do
+            [ -f "$work/$page.$number.$kind" ] || continue
+            needed=$(program $kind "$allowance")
+            if [ ! -x "$needed" ]; then
+                fault "docs/$page.md:$line: its $kind is not tried: $needed is not built"
+                continue
+            fi
+            answer "$work/$page.$number.text" $kind "$allowance" >"$work/out"
+            same "docs/$page.md:$line: the program prints another $kind" "$work/$page.$number.$kind" "$work/out"
+        done
     done <"$work/$page.index"
     # The page says how many it holds, so that none can get lost.
     said=$(sed -n 's/.*\*\*\([0-9]*\) examples\*\*.*/\1/p' docs/$page.md)
     there=$(($(wc -l <"$work/$page.index")))
     hold "docs/$page.md has no examples" [ $there != 0 ]
     hold "docs/$page.md has $there examples, and says that it holds '$said'" [ "$said" = $there ]
+done
+
+# ---- reach sheets, of a plan that is taken and of one that is refused
+
+for phrase in 'reach complete' refused; do
+    found=no
+    for reach in "$work"/PLAN.*.reach; do
+        [ -f "$reach" ] && [ "$(tail -n 1 "$reach")" = "$phrase" ] && found=yes
+    done
+    hold "docs/PLAN.md: no example of a reach sheet that ends in '$phrase'" [ $found = yes ]
 done
 
 # ---- the table of frames, against the definitions
@@ -218,7 +247,7 @@ while read -r refusal giver; do
     while read -r number line allowance heading; do
         case $heading in
             "### Refusal $refusal:"*)
-                head -n 1 "$work/PLAN.$number.sheet" | grep -q "^3f$(printf '%02x' "$refusal")" && found=yes
+                [ -f "$work/PLAN.$number.sheet" ] && head -n 1 "$work/PLAN.$number.sheet" | grep -q "^3f$(printf '%02x' "$refusal")" && found=yes
                 ;;
         esac
     done <"$work/PLAN.index"
@@ -239,7 +268,7 @@ section docs/PLAN.md '### Edges' | awk -v to="$work/edge" "$spell"'
     }'
 hold 'docs/PLAN.md: there are no edges' [ -s "$work/edge.index" ]
 while read -r number wanted text; do
-    got=$(answer "$work/edge.$number.text" - | head -n 1)
+    got=$(answer "$work/edge.$number.text" sheet - | head -n 1)
     hold "docs/PLAN.md: the sheet of the edge $text begins with $got and not with $wanted" [ "$got" = "$wanted" ]
 done <"$work/edge.index"
 
@@ -333,7 +362,7 @@ hold 'there are no sources in examples' [ $some = yes ]
 for plan in examples/*.plan; do
     name=${plan%.plan}
     hold "$plan has no source" [ -f "$name.source" ]
-    answer "$plan" - >"$work/$(basename "$name").sheet"
+    answer "$plan" sheet - >"$work/$(basename "$name").sheet"
     same "$name.sheet is not what the program prints" "$name.sheet" "$work/$(basename "$name").sheet"
 done
 
