@@ -68,6 +68,9 @@ promises 'Where the buffer is as long or longer, the sheet stands at its start a
 promises 'It may be called from several threads at once, with a buffer for each: it keeps nothing from one call to the next, has no data of its own that changes, and calls nothing but memcpy and memset.'
 promises 'All that is said of hjaltropa_sheet holds of this function too: the length is returned in any case, a buffer that is shorter is unchanged, and HJALTROPA_SHEET bytes always suffice.'
 promises 'A line 23llhhcc, in hexadecimal digits, says that level ll may receive handle hh on channel cc, and on no smaller channel.'
+promises 'There is one for each level and each handle that it may receive on any channel, by level, then by handle; the last level is the outermost, 07.'
+promises 'Behind them stands the line `reach complete`.'
+promises 'A text that hjaltropa_sheet refuses within the same allowance is refused here by the same two lines, 3fnnllll and `refused`.'
 
 quietly rt staticlib gateway
 library=target/staticlib/libgateway.a

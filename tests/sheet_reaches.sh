@@ -84,6 +84,8 @@ awk -v to="$work/readme" '
     on { on = 0 }
     END { print number + 0 }' README.md >"$work/questions"
 true_that 'README asks of both examples' [ "$(cat "$work/questions")" -ge 2 ]
+ls "$work"/readme.*.answer | wc -l | tr -d ' ' >"$work/answers"
+expect 'README answers each of its questions' 0 "$work/questions" cat "$work/answers"
 for question in "$work"/readme.*.answer; do
     asked=$(cat "${question%.answer}")
     status=0
@@ -224,6 +226,9 @@ reacher "$(printing 3f0e0000 refused)"
 lines 'The plan is refused: more rounds are needed than were allowed (refusal 14).' >"$work/wanted"
 expect 'a reach sheet with refusal 14' 2 "$work/wanted" false_sheet --reaches 9 "$work/plan"
 silent
+program "$clear"
+waits 2 '--reaches 0 -'
+program 'exit 9'
 reacher "$(printing 3f630003 refused)"
 lines 'The plan is refused at line 3: for a reason that this program does not know (refusal 99).' >"$work/wanted"
 expect 'a reach sheet with an unknown refusal' 2 "$work/wanted" false_sheet --reaches 9 "$work/plan"

@@ -118,10 +118,10 @@ expect 'after one that was killed, no clash' 0 "$work/nothing" cat "$work/clashe
 
 # Who waits for standard input lets others ask: it is read before the lock is taken. The text is far more than a pipe holds, so that the reader is
 # at it once all is written; then it waits for the end, which comes after the other's answer.
-toolchain "$well"
-program "$clear"
 mkfifo "$work/open"
-for words in - '--each -'; do
+# waits STATUS WORDS: so does ./sheet with these words, which then ends with this status.
+waits() {
+    ends=$1 words=$2
     rm -f "$work/ended"
     # shellcheck disable=SC2086
     false_sheet $words <"$work/open" >"$work/out.1" 2>"$work/err.1" &
@@ -136,13 +136,17 @@ for words in - '--each -'; do
     true_that "another answers while ./sheet $words waits for its input" await [ -s "$work/ended" ]
     exec 8>&-
     wait $asked
-    true_that "./sheet $words answers after all" [ $? = 0 ]
+    true_that "./sheet $words answers after all" [ $? = "$ends" ]
     wait $other
     lines 0 >"$work/both"
     expect "the status of the other of ./sheet $words" 0 "$work/both" cat "$work/ended"
     expect "the answer to the other of ./sheet $words" 0 "$work/clear" cat "$work/out.2"
     expect "the other of ./sheet $words was not kept waiting" 0 "$work/nothing" cat "$work/err.2"
-done
+}
+toolchain "$well"
+program "$clear"
+waits 0 -
+waits 0 '--each -'
 
 # One check for many plans.
 toolchain "$well"
