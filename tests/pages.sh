@@ -483,5 +483,5 @@ hold 'docs/PLAN.md: there are no branches' [ -s "$work/counts" ]
 same 'docs/PLAN.md: the branches are not those of branchCount' "$work/counts" "$work/branches"
 
 # Fewer checks than these were made only if some are lost.
-hold 'checks are lost' [ $((passed + failed)) -ge 536 ]
+hold 'checks are lost' [ $((passed + failed)) -ge 537 ]
 finish

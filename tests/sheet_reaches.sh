@@ -97,6 +97,12 @@ for relay in keeps breaks; do
     true_that "README asks of $relay" grep -q "examples/$relay" "$work"/readme.1 "$work"/readme.2
 done
 
+# The answer that the manual quotes, for the first plan of its section.
+awk '/^## The reach sheet$/ { on = 1 } block && /^```$/ { exit } block; on && /^```plan$/ { block = 1 }' docs/PLAN.md >"$work/quoted.plan"
+sed -n 's,.*`\./sheet --reaches 2 --level 0` says `\([^`]*\)`.*,\1,p' docs/PLAN.md >"$work/wanted"
+true_that 'docs/PLAN.md quotes an answer' [ -s "$work/wanted" ]
+expect 'the answer that docs/PLAN.md quotes' 1 "$work/wanted" ./sheet --reaches 2 --level 0 "$work/quoted.plan"
+
 # Where the plan comes from, and options in any place.
 lines 'Handle 2 never reaches level 0.' >"$work/wanted"
 asks 'a question of a source' 0 --reaches 2 --level 0 examples/keeps.source
