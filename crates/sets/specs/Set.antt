@@ -5,8 +5,8 @@ use mathlib.Core.Path.{_≡_}
 use mathlib.Core.Bool.{Bool, true, false}
 use mathlib.Core.Logic.{_↔_, _≢_}
 use mathlib.Core.List.{List, [], _∷_}
-use lib.Dec.{eqb}
-use Prim.Native.Nat.{ℕ, _/_, _%_, _^_, _<_}
+use lib.Dec.{eqb, ltb}
+use Prim.Native.Nat.{ℕ, _+_, _*_, _/_, _%_, _^_, _<_}
 
 abbrev pub Set : Type 0
 Set = ℕ
@@ -34,6 +34,10 @@ pub record Members (s : Set) (P : ℕ → Type 0) : Type 0 where
 -- every member of s is below the width w
 abbrev pub Narrow : ℕ → Set → Type 0
 Narrow w s = (c : ℕ) → Has s c → c < w
+
+-- the test of it: a set of channels below w counts less than channel w
+abbrev pub isNarrow : ℕ → Set → Bool
+isNarrow w s = ltb s (2 ^ w)
 
 -- each member of a is a member of b
 abbrev pub Subset : Set → Set → Type 0
@@ -64,6 +68,10 @@ pub record Without (s : Set) (c : ℕ) (r : Set) : Type 0 where
 -- a set is four bytes, high byte first; channel c counts 2 to the c
 abbrev pub setBytes : Set → List ℕ
 setBytes s = s / 0x1000000 % 0x100 ∷ s / 0x10000 % 0x100 ∷ s / 0x100 % 0x100 ∷ s % 0x100 ∷ []
+
+-- the set of four bytes, high byte first
+abbrev pub setOfBytes : ℕ → ℕ → ℕ → ℕ → Set
+setOfBytes first second third fourth = first * 0x1000000 + second * 0x10000 + third * 0x100 + fourth
 
 -- the answer b is true where P holds, and false where it does not
 pub record Decides (b : Bool) (P : Type 0) : Type 0 where

@@ -1,12 +1,14 @@
 // Sets of channels. Nobody above this crate knows what a set is made of: it is a number, and channel c is a member where the binary digit c of
-// the number is 1. Every contract speaks of members alone (specs/Set.antt), and fixes the answer. What is done to whole rows of sets is in rows.rt.
+// the number is 1. Every contract but those on bytes speaks of members alone (specs/Set.antt), and each fixes the answer. What is done to whole rows of
+// sets is in rows.rt.
 pub mod rows;
 
 ghost use mathlib.Core.Path.{_≡_};
 ghost use mathlib.Core.Logic.{_⊎_};
 ghost use Prim.Native.Nat.{_<_};
 ghost use Rattle.limits.specs.Limits.{mostChannels};
-ghost use Rattle.sets.specs.Set.{none, Has, isMember, Members, Empty, Meet, LeastMember, Without, Decides, setBytes};
+ghost use Rattle.sets.specs.Set.{none, Has, isMember, Members, Empty, Meet, Narrow, LeastMember, Without, Decides, setBytes, setOfBytes};
+use limits::MOST_CHANNELS;
 
 // A set of channels.
 pub type Set = u32;
@@ -69,6 +71,16 @@ pub fn is_empty(set: Set) -> bool
     set == 0
 }
 
+// Whether every member of `set` is below `width`.
+pub fn is_narrow(set: Set, width: u8) -> bool
+    ensures { λ r. ⌜ Decides r (Narrow width set) ⌝ }
+{
+    if MOST_CHANNELS <= width {
+        return true;
+    }
+    set >> width == 0
+}
+
 // The least member of a set that has one.
 pub fn least(set: Set) -> u32
     requires { ⌜ (Empty set → ⊥) ⌝ }
@@ -96,4 +108,11 @@ pub fn bytes(set: Set) -> [u8; 4]
         (set / 0x100 % 0x100) as u8,
         (set % 0x100) as u8,
     ]
+}
+
+// The set of four bytes, high byte first.
+pub fn of_bytes(first: u8, second: u8, third: u8, fourth: u8) -> Set
+    ensures { λ r. ⌜ r ≡ setOfBytes first second third fourth ⌝ }
+{
+    first as u32 * 0x1000000 + second as u32 * 0x10000 + third as u32 * 0x100 + fourth as u32
 }
