@@ -1,8 +1,10 @@
 //! Damaging a good plan's frames: numbers at and past their limits, wrong
-//! frames, names without meaning, too many nodes, too great a depth.
+//! frames, names without meaning, too many nodes, too great a depth. What is
+//! peculiar to offers has its own file.
 
 use crate::chance::Chance;
 use crate::making::Frames;
+use crate::offering::first_node;
 use crate::reading::{DEEPEST, HIGHEST_NAME, MOST_NODES};
 
 /// What a byte after a frame's first byte stands for.
@@ -29,8 +31,8 @@ pub fn damage_frames(frames: &mut Frames, chance: &mut Chance) {
         6 => {
             let place = chance.below(frames.len());
             frames[place][0] = chance.one_of(&[
-                0x00, 0x01, 0x02, 0x03, 0x0f, 0x10, 0x11, 0x12, 0x13, 0x14, 0x15, 0x16, 0x17, 0x18,
-                0x19, 0x1a, 0xff,
+                0x00, 0x01, 0x02, 0x03, 0x04, 0x0f, 0x10, 0x11, 0x12, 0x13, 0x14, 0x15, 0x16, 0x17,
+                0x18, 0x19, 0x1a, 0xff,
             ]);
         }
         7 => {
@@ -84,7 +86,7 @@ fn at_limit(number: Number, head: &[u8], chance: &mut Chance) -> u8 {
     }
 }
 
-/// What the numbers of a good plan's frame stand for, in order.
+/// What the numbers of a good plan's frame stand for, in order; a set is none.
 fn numbers(frame: &[u8]) -> &'static [Number] {
     match frame[0] {
         0x01 => &[
@@ -95,6 +97,7 @@ fn numbers(frame: &[u8]) -> &'static [Number] {
             Number::FreeNames,
         ],
         0x02 | 0x16 => &[Number::Name, Number::Channel],
+        0x03 => &[Number::Channel],
         0x12 | 0x17 => &[Number::Name, Number::Name],
         0x13 => &[Number::Name, Number::Name, Number::Binder],
         0x19 => &[Number::Level],
@@ -131,7 +134,7 @@ fn change_free_names(frames: &mut Frames, chance: &mut Chance) {
 /// Puts nodes beside some node, so that the plan has about as many nodes as a
 /// plan may have, or a few more.
 fn widen(frames: &mut Frames, chance: &mut Chance) {
-    let first_node = 1 + usize::from(frames[0][5]);
+    let first_node = first_node(frames);
     let nodes = frames.len() - first_node;
     let wanted = chance.between(MOST_NODES - 1, MOST_NODES + 2);
     if let Some(missing) = wanted.checked_sub(nodes + 1).filter(|count| *count > 0) {
@@ -158,7 +161,7 @@ fn add_bush(frames: &mut Frames, nodes: usize) {
 /// Puts silent steps above the root, so that the deepest node stands as deep as
 /// a node may, or a little deeper.
 fn deepen(frames: &mut Frames, chance: &mut Chance) {
-    let first_node = 1 + usize::from(frames[0][5]);
+    let first_node = first_node(frames);
     let wanted = chance.between(DEEPEST, DEEPEST + 2);
     let missing = wanted.saturating_sub(depth(&frames[first_node..]));
     frames.splice(first_node..first_node, vec![vec![0x11]; missing]);
@@ -168,13 +171,13 @@ fn deepen(frames: &mut Frames, chance: &mut Chance) {
 /// as a node may be, about as many nodes stand before it as a plan may have, and
 /// it may have faults of its own.
 fn stand_at_the_corner(frames: &mut Frames, chance: &mut Chance) {
-    frames.truncate(1 + usize::from(frames[0][5]));
+    frames.truncate(first_node(frames));
     let before = chance.between(MOST_NODES - 2, MOST_NODES);
     let steps = chance.between(DEEPEST - 1, DEEPEST + 1) - 2;
     frames.push(vec![0x15]);
     add_bush(frames, before - 1 - steps);
     frames.extend(vec![vec![0x11]; steps]);
-    let last: [&[u8]; 10] = [
+    let last: [&[u8]; 11] = [
         &[0x10],
         &[0x10],
         &[0x12, 64, 64],
@@ -185,6 +188,7 @@ fn stand_at_the_corner(frames: &mut Frames, chance: &mut Chance) {
         &[0x10, 0x00],
         &[0x1a],
         &[0x02, 0, 0],
+        &[0x03, 0, 0, 0, 0, 1],
     ];
     frames.push(chance.one_of(&last).to_vec());
 }

@@ -3,6 +3,7 @@
 
 use crate::chance::Chance;
 use crate::damaging::damage_frames;
+use crate::damaging_offers::damage_offers;
 use crate::damaging_text::{change_length, damage_bytes, damage_lines};
 use crate::frames::encode;
 use crate::making::{make_plan, Frames};
@@ -49,11 +50,14 @@ fn write_lines(frames: &Frames) -> Vec<Vec<u8>> {
 }
 
 /// The text of a good plan after damage to its frames, lines, bytes or length,
-/// at times to two of these.
+/// at times to two of these, or to its offers.
 fn damaged(mut frames: Frames, chance: &mut Chance) -> Vec<u8> {
-    let kind = chance.below(20);
+    let kind = chance.below(25);
     if kind < 10 {
         damage_frames(&mut frames, chance);
+    }
+    if kind >= 20 {
+        damage_offers(&mut frames, chance);
     }
     let mut lines = write_lines(&frames);
     if (9..14).contains(&kind) {

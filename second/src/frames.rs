@@ -1,7 +1,7 @@
 //! Frames: the bytes of one line, told apart by first byte and length, and the
 //! line that carries given bytes. The numbers in a frame are not judged here.
 
-use crate::plan::Head;
+use crate::plan::{Head, Set};
 
 /// A node's frame, its numbers as they stand in the line.
 #[derive(Clone, Copy, Debug, PartialEq, Eq)]
@@ -16,6 +16,14 @@ pub enum NodeFrame {
     Match { x: u8, y: u8 },
     Replication,
     Bracket { level: u8 },
+}
+
+/// A frame that may stand after the free names: an offer, or the root, which
+/// ends the offers.
+#[derive(Clone, Debug, PartialEq, Eq)]
+pub enum OfferOrRoot {
+    Offer { channel: u8, offered: Set },
+    Root(NodeFrame),
 }
 
 /// The edition and the head's numbers, or refusal number 3 or 4.
@@ -42,6 +50,26 @@ pub fn free_name_frame(bytes: &[u8]) -> Result<(u8, u8), u8> {
         [0x02, ..] => Err(4),
         _ => Err(3),
     }
+}
+
+/// An offer or the root's frame, or refusal number 3 or 4.
+pub fn offer_or_root_frame(bytes: &[u8]) -> Result<OfferOrRoot, u8> {
+    match *bytes {
+        [0x03, channel, first, second, third, fourth] => Ok(OfferOrRoot::Offer {
+            channel,
+            offered: set([first, second, third, fourth]),
+        }),
+        [0x03, ..] => Err(4),
+        _ => node_frame(bytes).map(OfferOrRoot::Root),
+    }
+}
+
+/// The set that four bytes carry, high byte first; channel c counts 2 to the c.
+fn set(bytes: [u8; 4]) -> Set {
+    let number = u32::from_be_bytes(bytes);
+    (0..32)
+        .filter(|channel| number >> channel & 1 == 1)
+        .collect()
 }
 
 /// A node's frame, or refusal number 3 or 4.

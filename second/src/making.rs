@@ -1,10 +1,11 @@
-//! Making: random good plans of many shapes and sizes, in which every used name
-//! has a meaning and few channels are shared by many nodes, so that what is
-//! sent is often received.
+//! Making: random good plans of many shapes and sizes, with offers and without,
+//! in which every used name has a meaning and few channels are shared by many
+//! nodes, so that what is sent is often received.
 
 use std::collections::BTreeSet;
 
 use crate::chance::Chance;
+use crate::offering::{draw_count, make_offers};
 use crate::plan::Head;
 use crate::reading::{DEEPEST, HIGHEST_NAME, MOST_NODES};
 use crate::relays::make_relay;
@@ -23,6 +24,8 @@ pub fn make_plan(chance: &mut Chance) -> Frames {
     for name in &names {
         frames.push(vec![0x02, *name, chance.byte_below(head.channels)]);
     }
+    let offers = draw_count(head.channels, chance);
+    frames.extend(make_offers(offers, head.channels, chance));
     let nodes = match chance.below(20) {
         0..=6 => chance.between(1, 24),
         7..=15 => chance.between(25, 80),

@@ -13,7 +13,7 @@ pub struct Solved {
     pub count: u16,
 }
 
-/// What a text comes to: it is solved, or refused (1 to 14).
+/// What a text comes to: it is solved, or refused (1 to 14, or 16).
 pub type Outcome = Result<Solved, Refusal>;
 
 /// The outcome of a text under an allowance of rounds.

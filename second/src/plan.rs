@@ -1,5 +1,8 @@
-//! The plan as reading hands it over: the head's numbers and the tree of
-//! nodes, in which every used name is already replaced by its marker.
+//! The plan as reading hands it over: the head's numbers, the offers of the
+//! outside and the tree of nodes, in which every used name is already replaced
+//! by its marker.
+
+use std::collections::{BTreeMap, BTreeSet};
 
 /// The level number of the outermost label, # in the source analysis.
 pub const OUTERMOST: u8 = 7;
@@ -23,6 +26,12 @@ impl Head {
         (0..=self.highest_level).chain([OUTERMOST])
     }
 }
+
+/// A set of channels.
+pub type Set = BTreeSet<u8>;
+
+/// What the outside sends on each channel that has an offer.
+pub type Offers = BTreeMap<u8, Set>;
 
 /// What a name means where it is used.
 #[derive(Clone, Copy, Debug, PartialEq, Eq)]
@@ -65,5 +74,6 @@ pub enum Node {
 #[derive(Debug, PartialEq, Eq)]
 pub struct Plan {
     pub head: Head,
+    pub offers: Offers,
     pub root: Node,
 }

@@ -5,8 +5,9 @@ use std::collections::BTreeMap;
 
 use crate::frames::encode;
 use crate::outcome::{outcome, Outcome, Solved};
+use crate::plan::Set;
 use crate::sheet::{refused, REFUSED};
-use crate::solving::{Place, Set};
+use crate::solving::Place;
 
 /// The length in bytes that no reach sheet exceeds.
 pub const LONGEST_REACH: usize = 2_319;

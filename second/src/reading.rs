@@ -4,8 +4,8 @@
 use std::collections::BTreeMap;
 use std::vec::IntoIter;
 
-use crate::frames::{self, NodeFrame};
-use crate::plan::{Head, Marker, Node, Plan};
+use crate::frames::{self, NodeFrame, OfferOrRoot};
+use crate::plan::{Head, Marker, Node, Offers, Plan};
 
 /// The longest text, in bytes.
 pub const LONGEST_TEXT: usize = 16_384;
@@ -34,7 +34,7 @@ struct Reader<'a> {
     nodes: usize,
 }
 
-/// The plan that a text carries, or its refusal (1 to 13).
+/// The plan that a text carries, or its refusal (1 to 13, or 16).
 pub fn read(text: &[u8]) -> Result<Plan, Refusal> {
     if text.is_empty() || text.len() > LONGEST_TEXT {
         return Err(Refusal { number: 1, line: 0 });
@@ -47,9 +47,10 @@ pub fn read(text: &[u8]) -> Result<Plan, Refusal> {
     };
     let head = reader.head()?;
     let scope = reader.free_names(&head)?;
-    let root = reader.node(&head, &scope, 1)?;
+    let (offers, root_frame) = reader.offers(&head)?;
+    let root = reader.node(root_frame, &head, &scope, 1)?;
     reader.end()?;
-    Ok(Plan { head, root })
+    Ok(Plan { head, offers, root })
 }
 
 impl Reader<'_> {
@@ -103,9 +104,34 @@ impl Reader<'_> {
         Ok(scope)
     }
 
-    /// Takes a node and its branches; judges 10, 11, 7, 9 at each node.
-    fn node(&mut self, head: &Head, scope: &Scope, depth: usize) -> Result<Node, Refusal> {
-        let frame = self.frame(frames::node_frame)?;
+    /// Takes the offers and the root's frame, which ends them; judges 7, 8, 16 at
+    /// each offer.
+    fn offers(&mut self, head: &Head) -> Result<(Offers, NodeFrame), Refusal> {
+        let mut offers = Offers::new();
+        loop {
+            let (channel, offered) = match self.frame(frames::offer_or_root_frame)? {
+                OfferOrRoot::Offer { channel, offered } => (channel, offered),
+                OfferOrRoot::Root(frame) => return Ok((offers, frame)),
+            };
+            let within_limits =
+                channel < head.channels && offered.iter().all(|handle| *handle < head.channels);
+            self.demand(within_limits, 7)?;
+            let ascending = offers.keys().all(|earlier| *earlier < channel);
+            self.demand(ascending, 8)?;
+            self.demand(!offered.is_empty(), 16)?;
+            offers.insert(channel, offered);
+        }
+    }
+
+    /// Takes the branches of the node whose frame is given; judges 10, 11, 7, 9
+    /// at each node.
+    fn node(
+        &mut self,
+        frame: NodeFrame,
+        head: &Head,
+        scope: &Scope,
+        depth: usize,
+    ) -> Result<Node, Refusal> {
         self.nodes += 1;
         self.demand(self.nodes <= MOST_NODES, 10)?;
         self.demand(depth <= DEEPEST, 11)?;
@@ -151,7 +177,8 @@ impl Reader<'_> {
 
     /// Takes a branch of a node that stands at the given depth.
     fn branch(&mut self, head: &Head, scope: &Scope, depth: usize) -> Result<Box<Node>, Refusal> {
-        self.node(head, scope, depth + 1).map(Box::new)
+        let frame = self.frame(frames::node_frame)?;
+        self.node(frame, head, scope, depth + 1).map(Box::new)
     }
 
     /// The marker of a used name; judges 9.

@@ -1,8 +1,10 @@
 //! Relays: plans in which each channel hands on to the next what it got and the
-//! last starts the first again, so that a solution takes many rounds.
+//! last starts the first again, so that a solution takes many rounds. A send or
+//! an offer starts the first.
 
 use crate::chance::Chance;
 use crate::making::{head_frame, Frames};
+use crate::offering::offer_frame;
 use crate::plan::Head;
 
 /// The frames of a random relay.
@@ -17,7 +19,11 @@ pub fn make_relay(chance: &mut Chance) -> Frames {
         free_names: channels,
     };
     let received = channels;
-    let mut parts: Vec<Frames> = vec![vec![vec![0x12, 0, 0], vec![0x10]]];
+    let offered = chance.percent(40);
+    let mut parts: Vec<Frames> = Vec::new();
+    if !offered {
+        parts.push(vec![vec![0x12, 0, 0], vec![0x10]]);
+    }
     for channel in 1..channels {
         parts.push(vec![
             vec![0x13, channel - 1, received, channel - 1],
@@ -46,6 +52,9 @@ pub fn make_relay(chance: &mut Chance) -> Frames {
     }
     let mut frames = vec![head_frame(&head)];
     frames.extend((0..channels).map(|name| vec![0x02, name, name]));
+    if offered {
+        frames.push(offer_frame(0, 1));
+    }
     frames.extend(side_by_side(&parts));
     frames
 }

@@ -3,8 +3,9 @@
 use crate::frames::encode;
 use crate::judging::first_breach;
 use crate::outcome::{outcome, Outcome, Solved};
+use crate::plan::Set;
 use crate::reading::Refusal;
-use crate::solving::{Place, Set};
+use crate::solving::Place;
 
 /// The length in bytes that no sheet exceeds.
 pub const LONGEST_SHEET: usize = 8_128;

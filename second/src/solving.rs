@@ -1,15 +1,12 @@
 //! Solving: the rounds that lead to the least acceptable solution, and their
 //! count. Relies only on what reading promises of a plan.
 
-use std::collections::{BTreeMap, BTreeSet};
+use std::collections::BTreeMap;
 
-use crate::plan::{Head, Marker, Node, Plan, OUTERMOST};
+use crate::plan::{Head, Marker, Node, Offers, Plan, Set, OUTERMOST};
 
 /// The rounds that suffice for every plan: B·C + 2·(k+2)·C·C + 1 at its most.
 pub const AMPLE_ROUNDS: u16 = 17_409;
-
-/// A set of channels.
-pub type Set = BTreeSet<u8>;
 
 static EMPTY: Set = Set::new();
 
@@ -57,6 +54,7 @@ pub fn solve(plan: &Plan, allowance: u16) -> Option<(Solution, u16)> {
             before: &solution,
             additions: Vec::new(),
         };
+        round.hold_offers(&plan.offers);
         round.hold(&plan.root, OUTERMOST);
         let additions = round.additions;
         if additions.is_empty() {
@@ -69,8 +67,8 @@ pub fn solve(plan: &Plan, allowance: u16) -> Option<(Solution, u16)> {
     None
 }
 
-/// One walk from the root: it reads the sets as they were before the round and
-/// keeps apart what has to be added.
+/// One walk over the offers and from the root: it reads the sets as they were
+/// before the round and keeps apart what has to be added.
 struct Round<'a> {
     head: &'a Head,
     before: &'a Solution,
@@ -78,6 +76,15 @@ struct Round<'a> {
 }
 
 impl Round<'_> {
+    /// Collects what is missing for the offers, which are sent outside every
+    /// bracket.
+    fn hold_offers(&mut self, offers: &Offers) {
+        let level = OUTERMOST;
+        for (&channel, offered) in offers {
+            self.include(offered, Place::Out { level, channel });
+        }
+    }
+
     /// Collects what is missing for the node to hold inside the given level.
     fn hold(&mut self, node: &Node, level: u8) {
         match node {

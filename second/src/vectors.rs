@@ -74,14 +74,62 @@ const REACHING: &[&str] = &[
      170001 13000200 10",
 ];
 
+/// Plans with offers and texts whose offers are at an edge, a word for a line.
+const OFFERING: &[&str] = &[
+    // The outside offers channel 0 on itself, and nobody takes it.
+    "010101000000 030000000001 10",
+    // A desk receives the offer; nobody else sends.
+    "010102010102 020000 020101 030000000002 1900 13000200 10",
+    // A desk at level 1 hands on to level 0 the handle that it received.
+    "010103020102 020000 020101 030000000004 15 1901 13000300 120103 10 1900 13010401 10",
+    // Offers without a free name: one channel is received on, the other is not.
+    "010102010000 030000000002 030100000001 160000 13000100 10",
+    // An offer on a channel that nobody receives on, beside a receive.
+    "010102010002 020000 020101 030100000001 13000200 10",
+    // The last channel offered on the last channel, then a channel, a bit, and a
+    // bit of the highest byte that are past it.
+    "010102000000 030100000002 10",
+    "010102000000 030200000001 10",
+    "010102000000 030000000004 10",
+    "01011f000000 030080000000 10",
+    "010120000000 032000000001 10",
+    // Channels that descend, and equal ones.
+    "010102000000 030100000001 030000000001 10",
+    "010102000000 030000000001 030000000002 10",
+    // Empty sets, alone and after a good offer.
+    "010101000000 030000000000 10",
+    "010102000000 030000000001 030100000000 10",
+    // Two faults of one line: a limit and the order, the order and an empty set,
+    // a limit and an empty set.
+    "010102000000 030100000001 030000000004 10",
+    "010102000000 030100000001 030000000000 10",
+    "010102000000 030200000000 10",
+    // Five bytes and seven, and a length before a limit.
+    "010101000000 0300000001 10",
+    "010101000000 03000000000100 10",
+    "010101000000 03ff 10",
+    // The text ends after the offers.
+    "010101000000 030000000001",
+    // Offers before a free name, after a node and after the tree, and frames that
+    // may not follow an offer.
+    "010101000001 030000000001 020000 10",
+    "010101000000 11 030000000001 10",
+    "010101000000 10 030000000001",
+    "010101000000 030000000001 020000 10",
+    "010101000000 030000000001 010101000000 10",
+    "010101000000 030000000001 04000061 10",
+];
+
 /// Every record of the vectors: the known plans, those chosen for their reach
-/// sheets and the edges, each answered one under the allowances around its count
-/// too, then the random ones.
+/// sheets or their offers and the edges, each answered one under the allowances
+/// around its count too, then the random ones.
 pub fn vectors() -> Vec<Record> {
-    let known = KNOWN.iter().chain(REACHING).map(|words| text(words));
-    let texts = known
-        .chain(edges())
-        .chain([longest_reach(), RELAY.to_vec()]);
+    let known = KNOWN.iter().chain(REACHING).chain(OFFERING);
+    let texts = known.map(|words| text(words)).chain(edges()).chain([
+        longest_reach(),
+        all_offers(),
+        RELAY.to_vec(),
+    ]);
     let around = texts.flat_map(|text| {
         let allowances = allowances(&text);
         allowances.into_iter().map(move |allowance| Record {
@@ -143,6 +191,15 @@ pub fn longest_reach() -> Vec<u8> {
     text(&format!(
         "010120010620 {free} 15 {sends} {brackets} {receives}"
     ))
+}
+
+/// The plan with the most and the largest offers: every channel of 32 on every
+/// channel.
+pub fn all_offers() -> Vec<u8> {
+    let offers: String = (0..32)
+        .map(|channel| format!("03{channel:02x}ffffffff "))
+        .collect();
+    text(&format!("010120000000 {offers} 10"))
 }
 
 /// The words of the parts, of which there is at least one, joined by parallel

@@ -47,7 +47,7 @@ fn vectors_reach_every_refusal_and_every_last_line() {
         }
         phrases.extend(sheet.lines().last().map(str::to_string));
     }
-    assert_eq!(refusals, (1..=14).collect());
+    assert_eq!(refusals, (1..=14).chain([16]).collect());
     assert_eq!(phrases.len(), 3);
 }
 

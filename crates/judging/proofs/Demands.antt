@@ -77,8 +77,8 @@ least-demand plan n s v a on = record {
 
 -- for every text that reads as a plan, and every allowance that its count is within
 pub demand-3 : (text : List ℕ) (allowance : ℕ) (r : Answer) → Judges (planIn text) allowance r
-    → (plan : Plan) → planIn text ≡ read plan → (n : ℕ) → Count (plan .tree) n → n ≤ allowance → Demand3 plan (r .verdict)
+    → (plan : Plan) → planIn text ≡ read plan → (n : ℕ) → Count plan n → n ≤ allowance → Demand3 plan (r .verdict)
 demand-3 text allowance r j plan e n counts enough =
     let demanded = demand-2 text allowance (r .solved) (j .solved) .plans plan e in
-    let within = subst (λ m. m ≤ allowance) (count-unique (plan .tree) n (demanded .count) counts (demanded .counts)) enough in
+    let within = subst (λ m. m ≤ allowance) (count-unique plan n (demanded .count) counts (demanded .counts)) enough in
     least-demand plan (demanded .count) (r .solved) (r .verdict) (demanded .answered within) (j .verdict)

@@ -21,5 +21,5 @@ pub record Demand3 (plan : Plan) (v : Verdict) : Type 1 where
   pub given : verdictBytes v ≢ noVerdict
   pub yes-exactly : (verdictBytes v ≡ yesBytes) ↔ ((t : Sets) × AcceptableIn plan t × Discreet (lowerIn plan) t)
   pub in-every : (b : Breach) → verdictBytes v ≡ noBytes b → (t : Sets) → AcceptableIn plan t → IsBreach (lowerIn plan) t b
-  pub no-smaller : (b : Breach) → verdictBytes v ≡ noBytes b → (s : Sets) → Least (plan .tree) s → (d : Breach) → IsBreach (lowerIn plan) s d
+  pub no-smaller : (b : Breach) → verdictBytes v ≡ noBytes b → (s : Sets) → Least plan s → (d : Breach) → IsBreach (lowerIn plan) s d
       → NotAfter b d

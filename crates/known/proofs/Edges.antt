@@ -1,4 +1,4 @@
--- The edges of document 01 that concern reading, computed from the definitions alone: one row each, and one claim over the rows.
+-- The edges of document 01, and of offers, that concern reading, computed from the definitions alone: one row each, and one claim over the rows.
 -- Assumes nothing.
 use Prim.Native.Nat.{ℕ, zero, suc}
 use Prim.Native.String.{String}
@@ -8,10 +8,10 @@ use mathlib.Core.List.{List, [], _∷_, _++_}
 use lib.Dec.{eqb}
 use Rattle.lines.specs.Text.{linesOf, isDigit, valueOf, allDigits, oddOrNone, isFaulty, bytesOf}
 use Rattle.lines.specs.Frames.{outside, table, frameFrom, rowIn, frameIn}
-use Rattle.lines.specs.Rules.{outsideLimits, headRule, nameRule, pairRule, receiveRule, restrictionRule, bracketRule}
-use Rattle.lines.specs.Line.{firstHead, nextName, nextNode}
+use Rattle.lines.specs.Rules.{outsideLimits, headRule, nameRule, offerRule, pairRule, receiveRule, restrictionRule, bracketRule}
+use Rattle.lines.specs.Line.{firstHead, nextName, nextOffer, nextNode}
 use Rattle.reading.specs.Tree.{listing}
-use Rattle.reading.specs.Plan.{Outcome, refused, read, Plan, grow, readNames, readTree, afterHead, readPlan, wrongLength, planIn}
+use Rattle.reading.specs.Plan.{Outcome, refused, read, Plan, grow, readNames, readOffers, readTree, afterHead, readPlan, wrongLength, planIn}
 use Rattle.putting.specs.Characters.{text}
 
 -- so many lines of one kind
@@ -55,6 +55,18 @@ rows =
     ∷ row (text "010101000000\n14\n10\n" ++ sums 7) 10 258
     ∷ row (text "010101000000\n" ++ (lines 31 "11\n" ++ text "10\n")) 0 0
     ∷ row (text "010101000000\n" ++ (lines 32 "11\n" ++ text "10\n")) 11 34
+    ∷ row (text "010120000000\n031fffffffff\n10\n") 0 0
+    ∷ row (text "010102000000\n030000000001\n030100000003\n10\n") 0 0
+    ∷ row (text "010102000000\n030200000001\n10\n") 7 2
+    ∷ row (text "010102000000\n030200000000\n10\n") 7 2
+    ∷ row (text "010102000000\n030100000001\n030000000004\n10\n") 7 3
+    ∷ row (text "010102000000\n030100000001\n030100000000\n10\n") 8 3
+    ∷ row (text "010102000000\n0300000001\n10\n") 4 2
+    ∷ row (text "010102000000\n030000000001") 2 2
+    ∷ row (text "010102000000\n030000000001\n") 12 3
+    ∷ row (text "010102000001\n030000000001\n020000\n10\n") 3 2
+    ∷ row (text "010102000001\n03\n020000\n10\n") 3 2
+    ∷ row (text "010102000001\n020000\n030000000001\n020101\n10\n") 3 4
     ∷ []
 
 abbrev answers : Outcome Plan → ℕ → ℕ → Bool
@@ -67,6 +79,6 @@ all (r ∷ rs) = answers (planIn (r .said)) (r .number) (r .line) && all rs
 
 edges : all rows ≡ true
 unfolding linesOf isDigit valueOf allDigits oddOrNone isFaulty bytesOf outside table frameFrom rowIn frameIn
-    outsideLimits headRule nameRule pairRule receiveRule restrictionRule bracketRule firstHead nextName nextNode listing
-    grow readNames readTree afterHead readPlan wrongLength planIn rows
+    outsideLimits headRule nameRule offerRule pairRule receiveRule restrictionRule bracketRule firstHead nextName nextOffer nextNode listing
+    grow readNames readOffers readTree afterHead readPlan wrongLength planIn rows
 edges = refl

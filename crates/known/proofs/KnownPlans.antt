@@ -1,17 +1,17 @@
--- Document 01's plans with known sheets, P1 to P10: one row each (P9 has two), and one claim over the rows, that each sheet is its text's. The
--- checker computes it from the definitions alone. Assumes nothing.
+-- Document 01's plans with known sheets, P1 to P10 (P9 has two rows), then plans with offers: one claim over the rows, that each sheet is its
+-- text's. The checker computes it from the definitions alone. Assumes nothing.
 use Prim.Native.Nat.{ℕ}
 use mathlib.Core.Path.{_≡_, refl, subst}
 use mathlib.Core.List.{List, [], _∷_, _++_, map}
 use Rattle.lines.specs.Text.{linesOf, isDigit, valueOf, allDigits, oddOrNone, isFaulty, bytesOf}
 use Rattle.lines.specs.Frames.{outside, table, frameFrom, rowIn, frameIn}
-use Rattle.lines.specs.Rules.{outsideLimits, headRule, nameRule, pairRule, receiveRule, restrictionRule, bracketRule}
-use Rattle.lines.specs.Line.{firstHead, nextName, nextNode}
+use Rattle.lines.specs.Rules.{outsideLimits, headRule, nameRule, offerRule, pairRule, receiveRule, restrictionRule, bracketRule}
+use Rattle.lines.specs.Line.{firstHead, nextName, nextOffer, nextNode}
 use Rattle.reading.specs.Tree.{listing}
-use Rattle.reading.specs.Plan.{grow, readNames, readTree, afterHead, readPlan, wrongLength, planIn}
+use Rattle.reading.specs.Plan.{grow, readNames, readOffers, readTree, afterHead, readPlan, wrongLength, planIn}
 use Rattle.solving.specs.Rounds.{roundCeiling}
 use Rattle.solving.specs.inner.Compute.{wanted, run, solutionOf}
-use Rattle.sets.specs.inner.Compute.{lowestWithin}
+use Rattle.sets.specs.inner.Compute.{listWithin, lowestWithin}
 use Rattle.judging.specs.inner.Compute.{verdictFrom}
 use Rattle.putting.specs.Characters.{text, digit, hexLine, hexLines}
 use Rattle.sheet.specs.Sheet.{setLines, SheetFor}
@@ -36,6 +36,13 @@ p2 = text "010102010102\n020000\n020101\n15\n1901\n120001\n10\n1900\n13000200\n1
 
 abbrev p2-sheet : List ℕ
 p2-sheet = text "2f0004\n200000000002\n21000000000002\n21070000000002\n22010000000002\n22070000000002\n300001000001\nflow breach\n"
+
+-- P2's receive, fed by an offer instead of P2's send: the same handle, from outside, where no level is above
+abbrev pub p2-offered : List ℕ
+p2-offered = text "010102010102\n020000\n020101\n030000000002\n1900\n13000200\n10\n"
+
+abbrev p2-offered-sheet : List ℕ
+p2-offered-sheet = text "2f0004\n200000000002\n21000000000002\n21070000000002\n22070000000002\n3001\nflow clear\n"
 
 -- document 000's Example 1, a b c as channels 0 1 2, x y z w as binders 0 to 3, R Q P at 0 1 2
 abbrev pub p6 : List ℕ
@@ -77,6 +84,13 @@ rows =
     ∷ row p2 3 (text "3f0e0000\nrefused\n")
     ∷ row p2 4 p2-sheet
     ∷ row (text "") allowed (text "3f010000\nrefused\n")
+    ∷ row (text "010101000000\n030000000001\n10\n") allowed (text "2f0002\n22070000000001\n3001\nflow clear\n")
+    ∷ row p2-offered allowed p2-offered-sheet
+    ∷ row (text "010102000000\n030000000002\n10\n") allowed (text "2f0002\n22070000000002\n3001\nflow clear\n")
+    ∷ row (text "010120000000\n030001020408\n10\n") allowed (text "2f0002\n22070001020408\n3001\nflow clear\n")
+    ∷ row (text "010102000000\n030000000004\n10\n") allowed (text "3f070002\nrefused\n")
+    ∷ row (text "010102000000\n030000000000\n10\n") allowed (text "3f100002\nrefused\n")
+    ∷ row (text "010102000000\n11\n030000000001\n10\n") allowed (text "3f030003\nrefused\n")
     ∷ []
 
 -- the sheets as they are computed, and as they stand in the rows
@@ -88,9 +102,9 @@ sheets rs = map (λ (r : KnownPlan). r .sheet) rs
 
 computed-rows : computed rows ≡ sheets rows
 unfolding linesOf isDigit valueOf allDigits oddOrNone isFaulty bytesOf outside table frameFrom rowIn frameIn
-    outsideLimits headRule nameRule pairRule receiveRule restrictionRule bracketRule listing
-    grow firstHead nextName nextNode readNames readTree afterHead readPlan wrongLength planIn
-    wanted run solutionOf lowestWithin verdictFrom setLines digit hexLine hexLines sheetFor rows
+    outsideLimits headRule nameRule offerRule pairRule receiveRule restrictionRule bracketRule listing
+    grow firstHead nextName nextOffer nextNode readNames readOffers readTree afterHead readPlan wrongLength planIn
+    wanted listWithin run solutionOf lowestWithin verdictFrom setLines digit hexLine hexLines sheetFor rows
 computed-rows = refl
 
 -- each row's sheet is that of its text within its allowance

@@ -5,17 +5,18 @@ use mathlib.Core.Path.{_≡_, refl, subst}
 use mathlib.Core.List.{List, [], _∷_, _++_, map}
 use Rattle.lines.specs.Text.{linesOf, isDigit, valueOf, allDigits, oddOrNone, isFaulty, bytesOf}
 use Rattle.lines.specs.Frames.{outside, table, frameFrom, rowIn, frameIn}
-use Rattle.lines.specs.Rules.{outsideLimits, headRule, nameRule, pairRule, receiveRule, restrictionRule, bracketRule}
-use Rattle.lines.specs.Line.{firstHead, nextName, nextNode}
+use Rattle.lines.specs.Rules.{outsideLimits, headRule, nameRule, offerRule, pairRule, receiveRule, restrictionRule, bracketRule}
+use Rattle.lines.specs.Line.{firstHead, nextName, nextOffer, nextNode}
 use Rattle.reading.specs.Tree.{listing}
-use Rattle.reading.specs.Plan.{grow, readNames, readTree, afterHead, readPlan, wrongLength, planIn}
+use Rattle.reading.specs.Plan.{grow, readNames, readOffers, readTree, afterHead, readPlan, wrongLength, planIn}
+use Rattle.sets.specs.inner.Compute.{listWithin}
 use Rattle.solving.specs.inner.Compute.{wanted, run, solutionOf}
 use Rattle.putting.specs.Characters.{text, digit, hexLine, hexLines}
 use Rattle.reaching.specs.inner.Compute.{valuesFrom, handlesFrom, firstFrom}
 use Rattle.reach_sheet.specs.ReachSheet.{reachLines, ReachSheetFor}
 use Rattle.reach_sheet.specs.inner.Compute.{reachSheetFor}
 use Rattle.reach_sheet.proofs.Reached.{reach-sheet-computed}
-use Rattle.known.proofs.KnownPlans.{KnownPlan, row, allowed, p2, p6, sheets}
+use Rattle.known.proofs.KnownPlans.{KnownPlan, row, allowed, p2, p2-offered, p6, sheets}
 
 -- channel 2 is sent on channel 0 from outside every bracket: level 0 receives it there, and level 1 listens where nobody sends
 abbrev household : List ℕ
@@ -30,6 +31,7 @@ rows =
     p6
     allowed
     (text "23010100\n23020001\n23020100\n23020201\n" ++ text "23070001\n23070100\n23070201\nreach complete\n")
+    ∷ row p2-offered allowed (text "23000100\n23070100\nreach complete\n")
     ∷ row household allowed (text "23000200\n23070200\nreach complete\n")
     ∷ row p2 3 (text "3f0e0000\nrefused\n")
     ∷ row (text "") allowed (text "3f010000\nrefused\n")
@@ -41,9 +43,9 @@ computed rs = map (λ (r : KnownPlan). reachSheetFor (r .plan) (r .allowance)) r
 
 computed-rows : computed rows ≡ sheets rows
 unfolding linesOf isDigit valueOf allDigits oddOrNone isFaulty bytesOf outside table frameFrom rowIn frameIn
-    outsideLimits headRule nameRule pairRule receiveRule restrictionRule bracketRule listing
-    grow firstHead nextName nextNode readNames readTree afterHead readPlan wrongLength planIn
-    wanted run solutionOf valuesFrom handlesFrom firstFrom reachLines digit hexLine hexLines reachSheetFor rows
+    outsideLimits headRule nameRule offerRule pairRule receiveRule restrictionRule bracketRule listing
+    grow firstHead nextName nextOffer nextNode readNames readOffers readTree afterHead readPlan wrongLength planIn
+    wanted listWithin run solutionOf valuesFrom handlesFrom firstFrom reachLines digit hexLine hexLines reachSheetFor rows
 computed-rows = refl
 
 -- each row's reach sheet is that of its text within its allowance

@@ -1,15 +1,17 @@
 -- The case of an answer tells what was judged of the line. Assumes nothing.
 use Prim.Native.Nat.{ℕ}
-use mathlib.Core.Path.{_≡_}
+use mathlib.Core.Path.{_≡_, refl}
 use native.Mathlib.Omega.{arith}
 use Rattle.lines.specs.declared.Entry.{Entry}
 use Rattle.lines.specs.declared.FreeName.{FreeName}
 use Rattle.lines.specs.declared.Head.{Head}
 use Rattle.lines.specs.declared.Node.{Node}
+use Rattle.lines.specs.declared.Offer.{Offer}
+use Rattle.lines.specs.declared.Offering.{Offering}
 use Rattle.lines.specs.declared.Opening.{Opening}
 use Rattle.lines.specs.declared.Step.{Step}
-use Rattle.lines.specs.Frames.{Judged, faulty, fine}
-use Rattle.lines.specs.Values.{openingOf, entryOf, stepOf}
+use Rattle.lines.specs.Frames.{Judged, faulty, fine, Next, here, over}
+use Rattle.lines.specs.Values.{openingOf, entryOf, offeringOf, stepOf}
 
 pub opening-faulty : (j : Judged Head) (w : ℕ) → openingOf j ≡ Opening.Faulty w → j ≡ faulty w
 opening-faulty (faulty n) w e = cc
@@ -26,6 +28,21 @@ entry-faulty (fine f) w e = let z : _≡_ {A = ℕ} 0 1 = cc in absurd (omega ar
 pub entry-found : (j : Judged FreeName) (name : FreeName) → entryOf j ≡ Entry.Found name → j ≡ fine name
 entry-found (faulty n) name e = let z : _≡_ {A = ℕ} 0 1 = cc in absurd (omega arith)
 entry-found (fine f) name e = cc
+
+pub offering-faulty : (j : Judged (Next Offer)) (w : ℕ) → offeringOf j ≡ Offering.Faulty w → j ≡ faulty w
+offering-faulty (faulty n) w e = cc
+offering-faulty (fine (here o)) w e = let z : _≡_ {A = ℕ} 0 1 = cc in absurd (omega arith)
+offering-faulty (fine over) w e = let z : _≡_ {A = ℕ} 0 1 = cc in absurd (omega arith)
+
+pub offering-found : (j : Judged (Next Offer)) (offer : Offer) → offeringOf j ≡ Offering.Found offer → j ≡ fine (here offer)
+offering-found (faulty n) offer e = let z : _≡_ {A = ℕ} 0 1 = cc in absurd (omega arith)
+offering-found (fine (here o)) offer e = cc
+offering-found (fine over) offer e = let z : _≡_ {A = ℕ} 0 1 = cc in absurd (omega arith)
+
+pub offering-over : (j : Judged (Next Offer)) → offeringOf j ≡ Offering.Over → j ≡ fine over
+offering-over (faulty n) e = let z : _≡_ {A = ℕ} 0 1 = cc in absurd (omega arith)
+offering-over (fine (here o)) e = let z : _≡_ {A = ℕ} 0 1 = cc in absurd (omega arith)
+offering-over (fine over) e = refl
 
 pub step-faulty : (j : Judged Node) (w : ℕ) → stepOf j ≡ Step.Faulty w → j ≡ faulty w
 step-faulty (faulty n) w e = cc

@@ -14,21 +14,22 @@ use Rattle.lines.specs.declared.Head.{Head}
 use Rattle.lines.specs.declared.Marker.{Marker}
 use Rattle.lines.specs.declared.Marker.the-variants.{Channel, Binder}
 use Rattle.lines.specs.declared.Node.{Node}
+use Rattle.lines.specs.declared.Offer.{Offer}
 use Rattle.lines.specs.declared.Node.the-variants.{Nil, Silent, Send, Receive, Sum, Parallel, Restriction, Match, Replication, Bracket}
 use Rattle.lines.specs.declared.frames.Span.{Span}
 use Rattle.lines.specs.declared.scope.Meaning.the-variants.{Is}
 use Rattle.limits.specs.Limits.{mostNodes}
 use Rattle.lines.specs.Text.{Line}
-use Rattle.lines.specs.Frames.{firstLine, freeNames, treeLines, only, Judged, faulty, fine, andOn, byte, frameOf, frameIn}
+use Rattle.lines.specs.Frames.{firstLine, freeNames, offerLines, treeLines, only, toTree, Next, Judged, faulty, fine, andOn, byte, frameOf, frameIn}
 use Rattle.lines.specs.Scope.{Scope, noNames, giving, inside}
-use Rattle.lines.specs.Rules.{headIn, nameIn, nodeIn}
-use Rattle.lines.specs.Line.{firstHead, nextName, nextNode}
+use Rattle.lines.specs.Rules.{headIn, nameIn, offerIn, nodeIn}
+use Rattle.lines.specs.Line.{firstHead, nextName, nextOffer, nextNode}
 use Rattle.lines.specs.Values.{restAt}
-use Rattle.lines.specs.Promise.{Gives, OnLine, LineWhole, NodeFits, HeadWithin, NameWithin, MarkerWithin, NodeWithin, IsGiven, enclosed, ScopeWithin, NodeGood, NodeNext}
+use Rattle.lines.specs.Promise.{Gives, OnLine, LineWhole, NodeFits, HeadWithin, NameWithin, NextWithin, MarkerWithin, NodeWithin, IsGiven, enclosed, ScopeWithin, NodeGood, NodeNext}
 use Rattle.lines.proofs.Table.{framing}
-use Rattle.lines.proofs.RulesWithin.{gives-cond, gives-on, gives-more, some-line, head-within, name-within, node-within}
+use Rattle.lines.proofs.RulesWithin.{gives-cond, gives-on, gives-more, some-line, head-within, name-within, next-within, node-within}
 pub use Rattle.lines.proofs.Lines.{rest-split, rest-none}
-pub use Rattle.lines.proofs.Cases.{opening-faulty, opening-found, entry-faulty, entry-found, step-faulty, step-found}
+pub use Rattle.lines.proofs.Cases.{opening-faulty, opening-found, entry-faulty, entry-found, offering-faulty, offering-found, offering-over, step-faulty, step-found}
 
 -- ---- the next line, where some are left
 
@@ -45,6 +46,16 @@ module _ (left : List Line) where
       gives-on (λ (frame : List ℕ). 0 < length left) (OnLine left (NameWithin h least)) (frameIn (only freeNames) left) (nameIn h least)
       (some-line (only freeNames) left)
       (λ frame some. gives-more (NameWithin h least) (0 < length left) some (nameIn h least frame) (name-within h least (byte 1 frame) (byte 2 frame)))
+
+  pub offer-given : (h : Head) (least : ℕ) → Gives (OnLine left (NextWithin h least)) (nextOffer h least left)
+  unfolding nextOffer
+  offer-given h least =
+      gives-on (λ (frame : List ℕ). 0 < length left) (OnLine left (NextWithin h least)) (frameIn (toTree offerLines) left) (offerIn h least)
+      (some-line (toTree offerLines) left)
+      (λ frame some. gives-more (NextWithin h least) (0 < length left) some (offerIn h least frame) (next-within (own frame) h least frame))
+    where
+      own : List ℕ → Bool
+      own frame = eqb (frameOf (byte 0 frame) .section) offerLines
 
   pub node-given : (h : Head) (given : List Marker) (scope : Scope) (depth count : ℕ) → ScopeWithin h given scope
       → Gives (OnLine left (NodeNext h given count)) (nextNode depth h scope count left)
@@ -80,6 +91,10 @@ module _ (s : List ℕ) (at : ℕ) where
   pub name-whole : (h : Head) (least : ℕ) (name : FreeName) → nextName h least (restAt s at) ≡ fine name → LineWhole s at
   unfolding nextName
   name-whole h least name q = whole-frame (only freeNames) (nameIn h least) name q
+
+  pub offer-whole : (h : Head) (least : ℕ) (next : Next Offer) → nextOffer h least (restAt s at) ≡ fine next → LineWhole s at
+  unfolding nextOffer
+  offer-whole h least next q = whole-frame (toTree offerLines) (offerIn h least) next q
 
   pub node-fits : (depth : ℕ) (h : Head) (scope : Scope) (count : ℕ) (node : Node) → nextNode depth h scope count (restAt s at) ≡ fine node
       → NodeFits s at depth count

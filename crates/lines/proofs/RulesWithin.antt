@@ -1,15 +1,16 @@
--- The rules keep the limits: what they judge is a number from 1 to 13, or something within the head's limits whose markers are given.
+-- The rules keep the limits: what they judge is one of reading's refusals, or something within the head's limits whose markers are given.
 -- Assumes nothing.
 use Prim.Native.Nat.{ℕ, suc, _<_}
 use mathlib.Core.Path.{_≡_, refl}
-use mathlib.Core.Bool.{Bool, true, false, cond, _||_}
+use mathlib.Core.Bool.{Bool, true, false, cond, not, _||_}
 use mathlib.Core.List.{List, [], _∷_}
 use native.Mathlib.Omega.{arith}
 use lib.Dec.{leb, ltb, eqb}
 use lib.ListN.{length}
-use borrow.Author.Tests.{leb-false, ltb-false, eqb-false}
+use borrow.Author.Tests.{leb-false, ltb-false, eqb-false, not-false}
 use Rattle.lines.specs.declared.Head.{Head}
 use Rattle.lines.specs.declared.FreeName.{FreeName}
+use Rattle.lines.specs.declared.Offer.{Offer}
 use Rattle.lines.specs.declared.Marker.{Marker}
 use Rattle.lines.specs.declared.Node.{Node}
 use Rattle.lines.specs.declared.Node.the-variants.{Nil, Silent, Send, Receive, Sum, Parallel, Restriction, Match, Replication, Bracket}
@@ -19,12 +20,15 @@ use Rattle.lines.specs.declared.frames.Frame.{Frame}
 use Rattle.lines.specs.declared.frames.Span.{Span}
 use Rattle.lines.specs.declared.frames.Kind.{Kind}
 use Rattle.lines.specs.declared.frames.Kind.the-variants as kind
+use Rattle.sets.specs.Set.{Set, isNone, isNarrow}
+use Rattle.sets.proofs.Minimum.{none-decides}
+use Rattle.sets.proofs.Width.{narrow-decides}
 use Rattle.limits.specs.Limits.{mostChannels, mostBinders, highestLevel, highestName, mostNames}
 use Rattle.lines.specs.Text.{Line, isFaulty, bytesOf}
-use Rattle.lines.specs.Frames.{outside, Judged, faulty, fine, andOn, byte, frameOf, rowIn, frameFor, frameIn}
+use Rattle.lines.specs.Frames.{outside, Judged, faulty, fine, andOn, Next, here, byte, frameOf, rowIn, frameFor, frameIn}
 use Rattle.lines.specs.Scope.{Scope}
-use Rattle.lines.specs.Rules.{edition, outsideLimits, headRule, nameRule, meant, pairRule, receiveRule, restrictionRule, bracketRule, nodeBy}
-use Rattle.lines.specs.Promise.{Gives, HeadWithin, NameWithin, MarkerWithin, IsGiven, ScopeWithin, NodeGood}
+use Rattle.lines.specs.Rules.{edition, outsideLimits, headRule, nameRule, offerRule, offerBy, meant, pairRule, receiveRule, restrictionRule, bracketRule, nodeBy}
+use Rattle.lines.specs.Promise.{Gives, HeadWithin, NameWithin, OfferWithin, NextWithin, MarkerWithin, IsGiven, ScopeWithin, NodeGood}
 use Rattle.lines.proofs.Tests.{or-false}
 
 -- ---- a test, and one thing judged after the other
@@ -96,6 +100,33 @@ name-within h least name channel =
     later : Judged FreeName
     later = cond (ltb name least) (faulty 8) (fine (record { name = name; channel = channel }))
 
+offer-fine : (h : Head) (least channel : ℕ) (set : Set) → (leb (h .channels) channel || not (isNarrow (h .channels) set)) ≡ false
+    → ltb channel least ≡ false → isNone set ≡ false → OfferWithin h least (record { channel = channel; set = set })
+offer-fine h least channel set high low none =
+    let a = or-false (leb (h .channels) channel) (not (isNarrow (h .channels) set)) high in
+    record {
+      ascending = ltb-false channel least low;
+      channel = leb-false (h .channels) channel (a .0);
+      handles = narrow-decides (h .channels) set .yes (not-false (isNarrow (h .channels) set) (a .1));
+      some = none-decides set .no none;
+    }
+
+offer-within : (h : Head) (least channel : ℕ) (set : Set) → Gives (NextWithin h least) (offerRule h least channel set)
+unfolding offerRule
+offer-within h least channel set =
+    let found : Judged (Next Offer) = fine (here (record { channel = channel; set = set })) in
+    let some = cond (isNone set) (faulty 16) found in
+    let ascending = cond (ltb channel least) (faulty 8) some in
+    let high = leb (h .channels) channel || not (isNarrow (h .channels) set) in
+    gives-cond (NextWithin h least) high (faulty 7) ascending (λ e. omega arith)
+    (λ below. gives-cond (NextWithin h least) (ltb channel least) (faulty 8) some (λ e. omega arith)
+    (λ up. gives-cond (NextWithin h least) (isNone set) (faulty 16) found (λ e. omega arith) (offer-fine h least channel set below up)))
+
+-- where the offers are over, nothing is asked
+pub next-within : (own : Bool) (h : Head) (least : ℕ) (frame : List ℕ) → Gives (NextWithin h least) (offerBy own h least frame)
+next-within true h least frame = offer-within h least (byte 1 frame) _
+next-within false h least frame = tt
+
 module _ (h : Head) (given : List Marker) (scope : Scope) (within : ScopeWithin h given scope) where
   gives-meant : (P : Node → Type 0) (name : ℕ) (go-on : Marker → Judged Node)
       → ((m : Marker) → MarkerWithin h m → IsGiven given m → Gives P (go-on m)) → Gives P (meant (scope name) go-on)
@@ -138,6 +169,7 @@ module _ (h : Head) (given : List Marker) (scope : Scope) (within : ScopeWithin 
   pub node-within : (k : Kind) (frame : List ℕ) → Gives (NodeGood h given) (nodeBy k h scope frame)
   node-within kind.Head frame = omega arith
   node-within kind.Name frame = omega arith
+  node-within kind.Offer frame = omega arith
   node-within kind.Nil frame = (tt, tt)
   node-within kind.Silent frame = (tt, tt)
   node-within kind.Send frame = pair-within Send (byte 1 frame) (byte 2 frame) (λ m n a b c d. ((a, b), (c, d)))

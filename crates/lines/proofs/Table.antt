@@ -16,9 +16,9 @@ use Rattle.lines.specs.declared.frames.Frame.{Frame}
 use Rattle.lines.specs.declared.frames.Framed.{Framed}
 use Rattle.lines.specs.declared.frames.Span.{Span}
 use Rattle.lines.specs.Text.{Line, allDigits, oddOrNone, isFaulty, bytesOf}
-use Rattle.lines.specs.Frames.{firstLine, freeNames, only, outside, Row, table, unknown, frameFrom, frameOf, Judged, faulty, fine, byte, rowIn, frameFor, frameIn}
+use Rattle.lines.specs.Frames.{firstLine, freeNames, offerLines, only, outside, Row, table, unknown, frameFrom, frameOf, Judged, faulty, fine, byte, rowIn, frameFor, frameIn}
 use Rattle.lines.specs.Scope.{Scope}
-use Rattle.lines.specs.Rules.{nodeBy, nodeIn}
+use Rattle.lines.specs.Rules.{nodeBy, nodeIn, offerBy, offerIn}
 use Rattle.lines.specs.Values.{restAt, lineAt, endAt}
 use Rattle.lines.specs.inner.Working.{frameAt, rowOf, framedOf, IsRow}
 use Rattle.lines.proofs.Tests.{or-false}
@@ -43,6 +43,7 @@ each-from P (r ∷ rs) first e = go (eqb first (r .first)) (each-from P rs first
 abbrev pub sizeOf : Kind → ℕ
 sizeOf kind.Head = 6
 sizeOf kind.Name = 3
+sizeOf kind.Offer = 6
 sizeOf kind.Nil = 1
 sizeOf kind.Silent = 1
 sizeOf kind.Send = 3
@@ -59,7 +60,7 @@ pub size-of-kind : (first : ℕ) → frameOf first .size ≡ sizeOf (frameOf fir
 unfolding table
 size-of-kind first =
     each-from (λ f. f .size ≡ sizeOf (f .kind)) table first
-    (refl, (refl, (refl, (refl, (refl, (refl, (refl, (refl, (refl, (refl, (refl, (refl, refl))))))))))))
+    (refl, (refl, (refl, (refl, (refl, (refl, (refl, (refl, (refl, (refl, (refl, (refl, (refl, refl)))))))))))))
 
 -- a frame of a kind has as many bytes, and its rule is that of the kind
 module _ (bytes : List ℕ) (row : Frame) (r : IsRow bytes row) (k : Kind) (e : row .kind ≡ k) where
@@ -71,6 +72,20 @@ module _ (bytes : List ℕ) (row : Frame) (r : IsRow bytes row) (k : Kind) (e : 
 
   pub rule-by-kind : (h : Head) (scope : Scope) → nodeBy k h scope bytes ≡ nodeIn h scope bytes
   rule-by-kind h scope = ap (λ (j : Kind). nodeBy j h scope bytes) (sym of-kind)
+
+-- the rule of an offer's line is by the row's section, and a frame of the offers has six bytes
+module _ (bytes : List ℕ) (row : Frame) (r : IsRow bytes row) where
+  of-section : row .section ≡ rowOf bytes .section
+  of-section = ap (λ (f : Frame). f .section) (r .found)
+
+  pub offer-long : row .section ≡ offerLines → length bytes ≡ 6
+  unfolding table
+  offer-long e =
+      r .long ∙ ap (λ (f : Frame). f .size) (r .found)
+      ∙ each-from (λ f. f .section ≡ offerLines → f .size ≡ 6) table (byte 0 bytes) (omega arith) (sym of-section ∙ e)
+
+  pub rule-by-section : (own : Bool) → eqb (row .section) offerLines ≡ own → (h : Head) (least : ℕ) → offerBy own h least bytes ≡ offerIn h least bytes
+  rule-by-section own e h least = ap (λ (b : Bool). offerBy b h least bytes) (sym e ∙ ap (λ (section : ℕ). eqb section offerLines) of-section)
 
 -- ---- a line with no fault
 

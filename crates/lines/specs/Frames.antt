@@ -1,4 +1,4 @@
--- Document 01, 'Plan text' and 'Refusal numbers': the sections of a text, the table of frames, and the frame on a line (12, 2, 3, 4).
+-- Document 01, 'Plan text' and 'Refusal numbers', and document 02's order 1: the sections of a text, the table of frames, and the frame on a line (12, 2, 3, 4).
 -- Assumes nothing.
 use Prim.Native.Nat.{ℕ}
 use mathlib.Core.Bool.{Bool, cond, _||_}
@@ -6,14 +6,14 @@ use mathlib.Core.List.{List, [], _∷_}
 use lib.ListN.{length, getD}
 use lib.Dec.{ltb, eqb}
 use Rattle.lines.specs.declared.frames.Kind.{Kind}
-use Rattle.lines.specs.declared.frames.Kind.the-variants.{Head, Name, Nil, Silent, Send, Receive, Sum, Parallel, Restriction, Match, Replication, Bracket, Unknown}
+use Rattle.lines.specs.declared.frames.Kind.the-variants.{Head, Name, Offer, Nil, Silent, Send, Receive, Sum, Parallel, Restriction, Match, Replication, Bracket, Unknown}
 use Rattle.lines.specs.declared.frames.Frame.{Frame}
 use Rattle.lines.specs.declared.frames.Span.{Span}
 use Rattle.lines.specs.Text.{Line, isFaulty, bytesOf}
 
 -- ---- the sections
 
--- in order: the first line, the free names, the tree; a byte that begins no frame stands nowhere, which is before all of them
+-- in order: the first line, the free names, the offers, the tree; a byte that begins no frame stands nowhere, which is before all of them
 abbrev pub nowhere : ℕ
 nowhere = 0
 
@@ -23,12 +23,19 @@ firstLine = 1
 abbrev pub freeNames : ℕ
 freeNames = 2
 
-abbrev pub treeLines : ℕ
-treeLines = 3
+abbrev pub offerLines : ℕ
+offerLines = 3
 
--- 'allowed at this point' are the sections from the one that reading stands in to the last that may come now; here, one alone
+abbrev pub treeLines : ℕ
+treeLines = 4
+
+-- 'allowed at this point' are the sections from the one that reading stands in to the last that may come now: that one alone
 abbrev pub only : ℕ → Span
 only section = record { from = section; to = section }
+
+-- or any up to the tree, where it may be over
+abbrev pub toTree : ℕ → Span
+toTree section = record { from = section; to = treeLines }
 
 -- a section is not allowed: it comes before them, or behind
 unfoldable pub outside : Span → ℕ → Bool
@@ -48,6 +55,7 @@ unfoldable pub table : List Row
 table =
     row 0x01 firstLine Head 6
     ∷ row 0x02 freeNames Name 3
+    ∷ row 0x03 offerLines Offer 6
     ∷ row 0x10 treeLines Nil 1
     ∷ row 0x11 treeLines Silent 1
     ∷ row 0x12 treeLines Send 3
@@ -82,6 +90,11 @@ pub data Judged (A : Type 0) : Type 0 where
 abbrev pub andOn : {A B : Type 0} → Judged A → (A → Judged B) → Judged B
 andOn (faulty number) go-on = faulty number
 andOn (fine a) go-on = go-on a
+
+-- what the next line is where a section may be over: one of its own, or one of a later section
+pub data Next (A : Type 0) : Type 0 where
+  here : A → Next A
+  over : Next A
 
 -- byte number i of a frame, where the first has number 0
 abbrev pub byte : ℕ → List ℕ → ℕ

@@ -1,4 +1,5 @@
--- What one line of a plan text says: document 01's 'Plan text' and 'Refusal numbers', in their order, as far as they speak of a line.
+-- What one line of a plan text says: document 01's 'Plan text' and 'Refusal numbers', in their order, and document 02's order 1, as far as they speak
+-- of a line.
 pub mod Text
 pub mod Frames
 pub mod Scope

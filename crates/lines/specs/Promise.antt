@@ -1,26 +1,33 @@
--- What is promised of every line: a refusal's number is one of 1 to 13; what is found stands on a line that is whole, keeps the limits, and uses
+-- What is promised of every line: a refusal's number is one of reading's; what is found stands on a line that is whole, keeps the limits, and uses
 -- only markers that are given.
 -- Assumes nothing.
 use Prim.Native.Nat.{ℕ, _≤_, _<_}
 use mathlib.Core.Path.{_≡_}
 use mathlib.Core.List.{List, _∷_, List·Memᴰ}
+use mathlib.Core.Logic.{_≢_}
 use lib.ListN.{length}
 use Rattle.lines.specs.declared.FreeName.{FreeName}
 use Rattle.lines.specs.declared.Head.{Head}
 use Rattle.lines.specs.declared.Marker.{Marker}
 use Rattle.lines.specs.declared.Marker.the-variants.{Channel, Binder}
 use Rattle.lines.specs.declared.Node.{Node}
+use Rattle.lines.specs.declared.Offer.{Offer}
 use Rattle.lines.specs.declared.Node.the-variants.{Nil, Silent, Send, Receive, Sum, Parallel, Restriction, Match, Replication, Bracket}
 use Rattle.lines.specs.declared.scope.Meaning.the-variants.{Is}
+use Rattle.sets.specs.Set.{Narrow, Empty}
 use Rattle.limits.specs.Limits.{mostChannels, mostBinders, highestLevel, highestName, mostNames, mostNodes}
 use Rattle.lines.specs.Text.{Line}
-use Rattle.lines.specs.Frames.{Judged, faulty, fine}
+use Rattle.lines.specs.Frames.{Judged, faulty, fine, Next, here, over}
 use Rattle.lines.specs.Scope.{Scope}
 use Rattle.lines.specs.Values.{endAt}
 
--- a number from 1 to 13, or something of which P holds
+-- reading's refusals: 1 to 16 but for the solver's, 14, and the sheet's, 15
+abbrev pub OfReading : ℕ → Type 0
+OfReading n = (1 ≤ n) × (n ≤ 16) × (n ≢ 14) × (n ≢ 15)
+
+-- a refusal of reading, or something of which P holds
 abbrev pub Gives : {A : Type 0} → (A → Type 0) → Judged A → Type 0
-Gives P (faulty n) = (1 ≤ n) × (n ≤ 13)
+Gives P (faulty n) = OfReading n
 Gives P (fine a) = P a
 
 -- and it stands on a line, the first of those that are left
@@ -50,6 +57,18 @@ pub record HeadWithin (h : Head) : Type 0 where
 -- a free name from `least` to 63, with a channel below C
 abbrev pub NameWithin : Head → ℕ → FreeName → Type 0
 NameWithin h least f = (least ≤ f .name) × (f .name ≤ highestName) × (f .channel < h .channels)
+
+-- an offer on a channel from `least` on and below C, of handles below C, and of one at least
+pub record OfferWithin (h : Head) (least : ℕ) (offer : Offer) : Type 0 where
+  pub ascending : least ≤ offer .channel
+  pub channel : offer .channel < h .channels
+  pub handles : Narrow (h .channels) (offer .set)
+  pub some : Empty (offer .set) → ⊥
+
+-- nothing is asked where the offers are over
+abbrev pub NextWithin : Head → ℕ → Next Offer → Type 0
+NextWithin h least (here offer) = OfferWithin h least offer
+NextWithin h least over = Unit {0}
 
 -- a channel below C, a binder below B
 abbrev pub MarkerWithin : Head → Marker → Type 0

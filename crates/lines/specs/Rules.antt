@@ -1,7 +1,7 @@
--- Document 01, 'Refusal numbers': the rule of each frame over its bytes: the head (5, 6), a free name (7, 8), a node (7, 9).
+-- Document 01, 'Refusal numbers', and document 02's order 1: the rule of each frame over its bytes: the head (5, 6), a free name (7, 8), an offer (7, 8, 16), a node (7, 9).
 -- Assumes nothing.
 use Prim.Native.Nat.{ℕ}
-use mathlib.Core.Bool.{Bool, cond, _||_}
+use mathlib.Core.Bool.{Bool, true, false, cond, not, _||_}
 use mathlib.Core.List.{List}
 use lib.Dec.{leb, ltb, eqb}
 use Rattle.lines.specs.declared.Marker.{Marker}
@@ -9,12 +9,14 @@ use Rattle.lines.specs.declared.scope.Meaning.{Meaning}
 use Rattle.lines.specs.declared.scope.Meaning.the-variants.{Nothing, Is}
 use Rattle.lines.specs.declared.Head.{Head}
 use Rattle.lines.specs.declared.FreeName.{FreeName}
+use Rattle.lines.specs.declared.Offer.{Offer}
 use Rattle.lines.specs.declared.frames.Kind.{Kind}
 use Rattle.lines.specs.declared.frames.Kind.the-variants as kind
 use Rattle.lines.specs.declared.Node.{Node}
 use Rattle.lines.specs.declared.Node.the-variants.{Nil, Silent, Send, Receive, Sum, Parallel, Restriction, Match, Replication, Bracket}
+use Rattle.sets.specs.Set.{Set, isNone, isNarrow, setOfBytes}
 use Rattle.limits.specs.Limits.{mostChannels, mostBinders, highestLevel, highestName, mostNames}
-use Rattle.lines.specs.Frames.{Judged, faulty, fine, byte, frameOf}
+use Rattle.lines.specs.Frames.{offerLines, Judged, faulty, fine, Next, here, over, byte, frameOf}
 use Rattle.lines.specs.Scope.{Scope}
 
 -- ---- the head
@@ -42,6 +44,16 @@ nameRule h least name channel =
     cond (ltb highestName name || leb (h .channels) channel) (faulty 7)
     (cond (ltb name least) (faulty 8)
     (fine (record { name = name; channel = channel })))
+
+-- ---- an offer
+
+-- `least` is the smallest channel that may stand here: one more than the channel before
+unfoldable pub offerRule : Head → ℕ → ℕ → Set → Judged (Next Offer)
+offerRule h least channel set =
+    cond (leb (h .channels) channel || not (isNarrow (h .channels) set)) (faulty 7)
+    (cond (ltb channel least) (faulty 8)
+    (cond (isNone set) (faulty 16)
+    (fine (here (record { channel = channel; set = set })))))
 
 -- ---- a node
 
@@ -81,10 +93,20 @@ headIn frame = headRule (byte 1 frame) (headOf frame)
 abbrev pub nameIn : Head → ℕ → List ℕ → Judged FreeName
 nameIn h least frame = nameRule h least (byte 1 frame) (byte 2 frame)
 
+-- an offer, where the frame is one; of a later section it says that the offers are over
+abbrev pub offerBy : Bool → Head → ℕ → List ℕ → Judged (Next Offer)
+offerBy true h least frame =
+    offerRule h least (byte 1 frame) (setOfBytes (byte 2 frame) (byte 3 frame) (byte 4 frame) (byte 5 frame))
+offerBy false h least frame = fine over
+
+abbrev pub offerIn : Head → ℕ → List ℕ → Judged (Next Offer)
+offerIn h least frame = offerBy (eqb (frameOf (byte 0 frame) .section) offerLines) h least frame
+
 -- a node by its kind; no other kind stands in the tree
 abbrev pub nodeBy : Kind → Head → Scope → List ℕ → Judged Node
 nodeBy kind.Head h scope frame = faulty 3
 nodeBy kind.Name h scope frame = faulty 3
+nodeBy kind.Offer h scope frame = faulty 3
 nodeBy kind.Nil h scope frame = fine Nil
 nodeBy kind.Silent h scope frame = fine Silent
 nodeBy kind.Send h scope frame = pairRule Send scope (byte 1 frame) (byte 2 frame)

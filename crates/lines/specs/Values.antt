@@ -9,12 +9,14 @@ use Rattle.lines.specs.declared.Entry.{Entry}
 use Rattle.lines.specs.declared.FreeName.{FreeName}
 use Rattle.lines.specs.declared.Head.{Head}
 use Rattle.lines.specs.declared.Node.{Node}
+use Rattle.lines.specs.declared.Offer.{Offer}
+use Rattle.lines.specs.declared.Offering.{Offering}
 use Rattle.lines.specs.declared.Opening.{Opening}
 use Rattle.lines.specs.declared.Step.{Step}
 use Rattle.lines.specs.declared.scope.Given.{Given}
 use Rattle.lines.specs.declared.scope.Meaning.the-variants.{Nothing}
 use Rattle.lines.specs.Text.{Line, linesOf}
-use Rattle.lines.specs.Frames.{Judged, faulty, fine}
+use Rattle.lines.specs.Frames.{Judged, faulty, fine, Next, here, over}
 use Rattle.lines.specs.Scope.{Scope}
 
 -- ---- a position of a text
@@ -44,6 +46,11 @@ openingOf (fine head) = Opening.Found head
 abbrev pub entryOf : Judged FreeName → Entry
 entryOf (faulty number) = Entry.Faulty number
 entryOf (fine name) = Entry.Found name
+
+abbrev pub offeringOf : Judged (Next Offer) → Offering
+offeringOf (faulty number) = Offering.Faulty number
+offeringOf (fine (here offer)) = Offering.Found offer
+offeringOf (fine over) = Offering.Over
 
 abbrev pub stepOf : Judged Node → Step
 stepOf (faulty number) = Step.Faulty number

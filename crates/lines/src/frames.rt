@@ -1,7 +1,7 @@
 // The sections of a text, the table of frames, and the frame on a line.
 ghost use mathlib.Core.Path.{_≡_};
 ghost use Rattle.lines.specs.declared.frames.Frame.{Frame};
-ghost use Rattle.lines.specs.Frames.{only, outside, frameOf, rowIn, frameIn};
+ghost use Rattle.lines.specs.Frames.{only, toTree, outside, frameOf, rowIn, frameIn};
 ghost use Rattle.lines.specs.Values.{restAt};
 ghost use Rattle.lines.specs.inner.Working.{rowOf, framedOf};
 use crate::text::byte_in;
@@ -15,7 +15,9 @@ pub(crate) const FIRST_LINE: u8 = 1;
 
 pub(crate) const FREE_NAMES: u8 = 2;
 
-pub(crate) const TREE_LINES: u8 = 3;
+pub(crate) const OFFER_LINES: u8 = 3;
+
+pub(crate) const TREE_LINES: u8 = 4;
 
 // The sections that the next line may stand in: from the one that reading stands in to the last that may come now.
 pub(crate) struct Span {
@@ -27,6 +29,7 @@ pub(crate) struct Span {
 pub(crate) enum Kind {
     Head,
     Name,
+    Offer,
     Nil,
     Silent,
     Send,
@@ -63,6 +66,16 @@ pub(crate) fn only(section: u8) -> Span
     }
 }
 
+// The sections from one that may be over to the tree.
+pub(crate) fn to_tree(section: u8) -> Span
+    ensures { λ r. ⌜ r ≡ toTree section ⌝ }
+{
+    Span {
+        from: section,
+        to: TREE_LINES,
+    }
+}
+
 // Whether a section is not allowed.
 fn outside(span: Span, section: u8) -> bool
     ensures { λ r. ⌜ r ≡ outside span section ⌝ }
@@ -91,6 +104,7 @@ fn frame_of(first: u8) -> Frame
     match first {
         0x01 => row(FIRST_LINE, Kind::Head, 6),
         0x02 => row(FREE_NAMES, Kind::Name, 3),
+        0x03 => row(OFFER_LINES, Kind::Offer, 6),
         0x10 => row(TREE_LINES, Kind::Nil, 1),
         0x11 => row(TREE_LINES, Kind::Silent, 1),
         0x12 => row(TREE_LINES, Kind::Send, 3),

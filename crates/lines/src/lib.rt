@@ -1,21 +1,25 @@
-// What one line of a plan text says, as the head's, a free name's or a node's: a refusal's number, or what was found.
+// What one line of a plan text says, as the head's, a free name's, an offer's or a node's: a refusal's number, or what was found.
 // The way of the data: text (a line's characters and bytes), frames (the table), scope (what names mean), rules (what a frame's bytes say), and the
-// line here. Proved: each operation answers as document 01 judges the line at that position. It knows nothing of the lines before and behind:
+// line here. Proved: each operation answers as documents 01 and 02 judge the line at that position. It knows nothing of the lines before and behind:
 // a caller says which section reading stands in by the operation, and what was read before by its arguments.
 ghost use mathlib.Core.Path.{_≡_};
-ghost use Rattle.lines.specs.Line.{firstHead, nextName, nextNode};
-ghost use Rattle.lines.specs.Values.{restAt, openingOf, entryOf, stepOf, meaningIn};
+ghost use Rattle.lines.specs.Line.{firstHead, nextName, nextOffer, nextNode};
+ghost use Rattle.lines.specs.Values.{restAt, openingOf, entryOf, offeringOf, stepOf, meaningIn};
 use crate::frames::FIRST_LINE;
 use crate::frames::FREE_NAMES;
 use crate::frames::Framed;
+use crate::frames::OFFER_LINES;
 use crate::frames::TREE_LINES;
 use crate::frames::frame_in;
 use crate::frames::only;
+use crate::frames::to_tree;
 use crate::rules::head_in;
 use crate::rules::name_in;
 use crate::rules::node_in;
+use crate::rules::offer_in;
 use crate::scope::Scope;
 use limits::MOST_NODES;
+use sets::Set;
 
 mod frames;
 mod rules;
@@ -56,6 +60,12 @@ pub struct FreeName {
     pub channel: u8,
 }
 
+// What the outside offers on a channel: a set of handles.
+pub struct Offer {
+    pub channel: u8,
+    pub set: Set,
+}
+
 // What the first line says: a refusal's number, or the head.
 pub enum Opening {
     Faulty(u8),
@@ -66,6 +76,13 @@ pub enum Opening {
 pub enum Entry {
     Faulty(u8),
     Found(FreeName),
+}
+
+// What a line says where an offer may stand: a refusal's number, the offer, or that the offers are over.
+pub enum Offering {
+    Faulty(u8),
+    Found(Offer),
+    Over,
 }
 
 // What a node's line says: a refusal's number, or the node.
@@ -91,6 +108,16 @@ pub fn next_name(text: &[u8], at: usize, head: Head, least: usize) -> Entry
     match frame_in(text, only(FREE_NAMES), at) {
         Framed::Faulty(number) => Entry::Faulty(number),
         Framed::Frame(_) => name_in(text, at, head, least),
+    }
+}
+
+// What the line at `at` says where an offer may stand, on a channel that is `least` or more.
+pub fn next_offer(text: &[u8], at: usize, head: Head, least: usize) -> Offering
+    ensures { λ r. ⌜ r ≡ offeringOf (nextOffer head least (restAt (now (text .entry)) at)) ⌝ }
+{
+    match frame_in(text, to_tree(OFFER_LINES), at) {
+        Framed::Faulty(number) => Offering::Faulty(number),
+        Framed::Frame(frame) => offer_in(text, at, frame, head, least),
     }
 }
 

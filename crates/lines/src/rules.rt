@@ -1,18 +1,21 @@
-// The rule of each frame over its bytes: the head (5, 6), a free name (7, 8), a node (7, 9).
+// The rule of each frame over its bytes: the head (5, 6), a free name (7, 8), an offer (7, 8, 16), a node (7, 9).
 ghost use mathlib.Core.Path.{_≡_};
 ghost use lib.ListN.{length};
-ghost use Rattle.lines.specs.Rules.{outsideLimits, headOf, headIn, nameRule, nameIn, pairRule, receiveRule, restrictionRule, bracketRule, nodeIn};
-ghost use Rattle.lines.specs.Values.{meaningIn, openingOf, entryOf, stepOf};
+ghost use Rattle.lines.specs.Rules.{outsideLimits, headOf, headIn, nameRule, nameIn, offerRule, offerIn, pairRule, receiveRule, restrictionRule, bracketRule, nodeIn};
+ghost use Rattle.lines.specs.Values.{meaningIn, openingOf, entryOf, offeringOf, stepOf};
 ghost use Rattle.lines.specs.inner.Working.{frameAt, IsRow, pairOf};
 use crate::Entry;
 use crate::FreeName;
 use crate::Head;
 use crate::Marker;
 use crate::Node;
+use crate::Offer;
+use crate::Offering;
 use crate::Opening;
 use crate::Step;
 use crate::frames::Frame;
 use crate::frames::Kind;
+use crate::frames::OFFER_LINES;
 use crate::scope::Meaning;
 use crate::scope::Scope;
 use crate::scope::look_up;
@@ -22,6 +25,7 @@ use limits::HIGHEST_NAME;
 use limits::MOST_BINDERS;
 use limits::MOST_CHANNELS;
 use limits::MOST_NAMES;
+use sets::Set;
 
 const EDITION: u8 = 1;
 
@@ -95,6 +99,42 @@ pub(crate) fn name_in(text: &[u8], at: usize, head: Head, least: usize) -> Entry
     ensures { λ r. ⌜ r ≡ entryOf (nameIn head least (frameAt (now (text .entry)) at)) ⌝ }
 {
     name_rule(head, least, byte_in(text, at, 1), byte_in(text, at, 2))
+}
+
+// An offer of handles on a channel, which has to be `least` or more.
+fn offer_rule(head: Head, least: usize, channel: u8, set: Set) -> Offering
+    ensures { λ r. ⌜ r ≡ offeringOf (offerRule head least channel set) ⌝ }
+{
+    if head.channels <= channel {
+        return Offering::Faulty(7);
+    }
+    if !sets::is_narrow(set, head.channels) {
+        return Offering::Faulty(7);
+    }
+    if (channel as usize) < least {
+        return Offering::Faulty(8);
+    }
+    if sets::is_empty(set) {
+        return Offering::Faulty(16);
+    }
+    Offering::Found(Offer { channel, set })
+}
+
+// The offer in the frame at `at`, of which `frame` is the table's row; or the offers are over, where the frame is of a later section.
+pub(crate) fn offer_in(text: &[u8], at: usize, frame: Frame, head: Head, least: usize) -> Offering
+    requires { ⌜ IsRow (frameAt (now text) at) frame ⌝ }
+    ensures { λ r. ⌜ r ≡ offeringOf (offerIn head least (frameAt (now (text .entry)) at)) ⌝ }
+{
+    if frame.section != OFFER_LINES {
+        return Offering::Over;
+    }
+    let set = sets::of_bytes(
+        byte_in(text, at, 2),
+        byte_in(text, at, 3),
+        byte_in(text, at, 4),
+        byte_in(text, at, 5),
+    );
+    offer_rule(head, least, byte_in(text, at, 1), set)
 }
 
 // The node of two markers: a match or a send.
@@ -178,6 +218,7 @@ pub(crate) fn node_in(text: &[u8], at: usize, frame: Frame, head: Head, scope: S
     match kind {
         Kind::Head => Step::Faulty(3),
         Kind::Name => Step::Faulty(3),
+        Kind::Offer => Step::Faulty(3),
         Kind::Nil => Step::Found(Node::Nil),
         Kind::Silent => Step::Found(Node::Silent),
         Kind::Send => pair_rule(false, scope, byte_in(text, at, 1), byte_in(text, at, 2)),

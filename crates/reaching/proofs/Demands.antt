@@ -89,9 +89,9 @@ least-reach plan n s r few a x = record {
 
 -- for every text that reads as a plan, and every allowance that its count is within
 pub reach-demand : (text : List ℕ) (allowance : ℕ) (r : Received) → Reaches (planIn text) allowance r
-    → (plan : Plan) → planIn text ≡ read plan → (n : ℕ) → Count (plan .tree) n → n ≤ allowance → ReachDemand plan r
+    → (plan : Plan) → planIn text ≡ read plan → (n : ℕ) → Count plan n → n ≤ allowance → ReachDemand plan r
 reach-demand text allowance r w plan e n counts enough =
     let demanded = demand-2 text allowance (w .solved) (w .of-text) .plans plan e in
-    let within = subst (λ m. m ≤ allowance) (count-unique (plan .tree) n (demanded .count) counts (demanded .counts)) enough in
+    let within = subst (λ m. m ≤ allowance) (count-unique plan n (demanded .count) counts (demanded .counts)) enough in
     let few = subst Kept e (kept text) .head .channels in
     least-reach plan (demanded .count) (w .solved) r few (demanded .answered within) (w .reach)

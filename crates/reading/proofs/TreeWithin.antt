@@ -1,4 +1,4 @@
--- The readers keep the limits: free names and trees end in a refusal that is in order, or in something within the limits,
+-- The readers keep the limits: free names, offers and trees end in a refusal that is in order, or in something within the limits,
 -- with room for it, in whose scope every marker is given.
 -- Assumes nothing.
 use Prim.Native.Nat.{ℕ, zero, suc, _+_, _≤_, _<_, max}
@@ -11,24 +11,24 @@ use Rattle.lines.specs.declared.Head.{Head}
 use Rattle.lines.specs.declared.Marker.{Marker}
 use Rattle.lines.specs.declared.Marker.the-variants.{Channel, Binder}
 use Rattle.lines.specs.declared.Node.{Node}
+use Rattle.lines.specs.declared.Offer.{Offer}
 use Rattle.lines.specs.declared.Node.the-variants.{Nil, Silent, Send, Receive, Sum, Parallel, Restriction, Match, Replication, Bracket}
 use Rattle.limits.specs.Limits.{mostNodes}
 use Rattle.lines.specs.Text.{Line, rest}
-use Rattle.lines.specs.Frames.{Judged, faulty, fine}
+use Rattle.lines.specs.Frames.{Judged, faulty, fine, Next, here, over}
 use Rattle.lines.specs.Scope.{Scope, giving, naming, inside}
-use Rattle.lines.specs.Line.{nextName, nextNode}
-use Rattle.lines.specs.Promise.{Gives, OnLine, NameWithin, NodeWithin, enclosed, ScopeWithin, NodeGood, NodeNext}
-use Rattle.lines.proofs.Promise.{name-given, node-given, giving-within, inside-within}
+use Rattle.lines.specs.Line.{nextName, nextOffer, nextNode}
+use Rattle.lines.specs.Promise.{OfReading, Gives, OnLine, NameWithin, OfferWithin, NextWithin, NodeWithin, enclosed, ScopeWithin, NodeGood, NodeNext}
+use Rattle.lines.proofs.Promise.{name-given, offer-given, node-given, giving-within, inside-within}
 use Rattle.reading.specs.declared.Refusal.{Refusal}
 use Rattle.reading.specs.Tree.{Tree, silent, send, receive, sum, parallel, restriction, match, replication, bracket, listing, depth}
-use Rattle.reading.specs.Plan.{Outcome, refused, read, Place, onward, judged, andThen, readNames, Grown, Reader, one, two, grow, readTree}
-use Rattle.reading.specs.Promise.{NamesWithin, EachWithin, Scoped, givenBy}
+use Rattle.reading.specs.Plan.{Outcome, refused, read, Place, onward, judged, andThen, readNames, Offered, offersFrom, readOffers, Grown, Reader, one, two, grow, readTree}
+use Rattle.reading.specs.Promise.{NamesWithin, OffersWithin, EachWithin, Scoped, givenBy}
 
 -- ---- what reading ends in, where lines are numbered up to m
 
 pub record InOrder (m : ℕ) (f : Refusal) : Type 0 where
-  pub least : 1 ≤ f .number
-  pub most : f .number ≤ 13
+  pub number : OfReading (f .number)
   pub line : f .line ≤ m
 
 -- the lines that are left have numbers up to m
@@ -46,7 +46,7 @@ ends-then m P Q (read a) go-on h k = k a h
 
 pub ends-judged : {A B : Type 0} (m : ℕ) (P : A → Type 0) (Q : B → Type 0) (place : Place) (j : Judged A) (go-on : A → Outcome B)
     → Numbered m place → Gives P j → ((a : A) → P a → Ends m Q (go-on a)) → Ends m Q (judged place j go-on)
-ends-judged m P Q place (faulty n) go-on numbered h k = record { least = h .0; most = h .1; line = omega arith }
+ends-judged m P Q place (faulty n) go-on numbered h k = record { number = h; line = omega arith }
 ends-judged m P Q place (fine a) go-on numbered h k = k a h
 
 pub numbered-on : (m : ℕ) (place : Place) → 0 < length (place .left) → Numbered m place → Numbered m (onward place)
@@ -68,6 +68,28 @@ names-within m h (suc many) least place numbered =
     (readNames many h (f .name + 1) (onward place)) _
     (names-within m h many (f .name + 1) (onward place) (numbered-on m place (w .1) numbered))
     (λ n g. (ap suc (g .0), (w .0, g .1), g .2)))
+
+-- ---- the offers
+
+module _ (m : ℕ) (h : Head) where
+  abbrev pub OffersGood : ℕ → Offered → Type 0
+  OffersGood least o = OffersWithin h least (o .offers) × Numbered m (o .after)
+
+  from-within : (least : ℕ) (place : Place) (behind : Offer → Outcome Offered) → Numbered m place
+      → ((offer : Offer) → OfferWithin h least offer → Ends m (OffersGood (offer .channel + 1)) (behind offer))
+      → (next : Next Offer) → NextWithin h least next → Ends m (OffersGood least) (offersFrom place behind next)
+  from-within least place behind numbered good (here offer) w =
+      ends-then m (OffersGood (offer .channel + 1)) (OffersGood least) (behind offer) _ (good offer w) (λ o g. ((w, g .0), g .1))
+  from-within least place behind numbered good over w = (tt, numbered)
+
+  pub offers-within : (least line : ℕ) (left : List Line) → line + length left ≤ m → Ends m (OffersGood least) (readOffers h least line left)
+  unfolding readOffers
+  offers-within least line [] numbered = record { number = omega arith; line = omega arith }
+  offers-within least line (l ∷ ls) numbered =
+      let place : Place = record { line = line; left = l ∷ ls } in
+      ends-judged m (OnLine (l ∷ ls) (NextWithin h least)) (OffersGood least) place (nextOffer h least (l ∷ ls)) _ numbered (offer-given (l ∷ ls) h least)
+      (λ next w. from-within least place _ numbered
+      (λ offer good. offers-within (offer .channel + 1) (line + 1) ls (omega arith)) next (w .0))
 
 -- ---- the scope
 
@@ -154,7 +176,7 @@ unfolding readTree
 tree-within m h given zero scope count place within numbered =
     ends-judged m (OnLine (place .left) (NodeNext h given count)) (TreeGood m h given zero count) place (nextNode zero h scope count (place .left)) _ numbered
     (node-given (place .left) h given scope zero count within)
-    (λ n w. record { least = omega arith; most = omega arith; line = omega arith })
+    (λ n w. record { number = omega arith; line = omega arith })
 tree-within m h given (suc d) scope count place within numbered =
     ends-judged m (OnLine (place .left) (NodeNext h given count)) (TreeGood m h given (suc d) count) place (nextNode (suc d) h scope count (place .left)) _ numbered
     (node-given (place .left) h given scope (suc d) count within)

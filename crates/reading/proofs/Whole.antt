@@ -1,7 +1,7 @@
--- The whole text, by what the sections gave: free names, then a tree, then nothing more. Assumes nothing.
+-- The whole text, by what the sections gave: free names, then offers, then a tree, then nothing more. Assumes nothing.
 use Prim.Native.Nat.{ℕ, _+_, _≤_, _<_}
 use mathlib.Core.Path.{_≡_, refl, sym, ap, _∙_, subst}
-use mathlib.Core.Bool.{true, false}
+use mathlib.Core.Bool.{Bool, true, false}
 use mathlib.Core.List.{List, _++_, map}
 use native.Mathlib.Omega.{arith}
 use lib.Dec.{ltb, eqb}
@@ -21,13 +21,16 @@ use Rattle.lines.proofs.Lists.{drop-replicate}
 use Rattle.lines.proofs.Tests.{or-false}
 use Rattle.lines.proofs.Promise.{rest-none, rest-split, opening-faulty, opening-found, head-given, head-whole}
 use Rattle.reading.specs.declared.Reading.{Reading}
+use Rattle.reading.specs.declared.Refusal.{Refusal}
+use Rattle.reading.specs.declared.Slot.{Slot}
 use Rattle.reading.specs.declared.cursor.Cursor.{Cursor}
 use Rattle.reading.specs.declared.names.Names.{Names}
+use Rattle.reading.specs.declared.offers.Offers.{Offers}
 use Rattle.reading.specs.declared.tree.State.{State}
 use Rattle.reading.specs.Tree.{listing}
-use Rattle.reading.specs.Plan.{Outcome, refused, read, Named, readNames, Grown, readTree, Plan, closed, afterHead, readPlan, wrongLength, planIn, padded, noName, slot, noRefusal, readingOf}
+use Rattle.reading.specs.Plan.{Outcome, refused, read, Place, Named, readNames, Offered, readOffers, Grown, readTree, Plan, closed, afterHead, readPlan, wrongLength, planIn, padded, noName, slot, noRefusal, laying, offerRow, readingOf}
 use Rattle.reading.specs.Promise.{PlanWithin}
-use Rattle.reading.specs.inner.Working.{StandsIn, placeAt, Past, FreshNames, Gathered, Gathers, FreshState, Grew, Grows}
+use Rattle.reading.specs.inner.Working.{StandsIn, placeAt, Past, FreshNames, Gathered, Gathers, FreshOffers, Laid, Lays, FreshState, Grew, Grows}
 use Rattle.reading.proofs.Growing.{onward-past, true-not-false}
 use Rattle.reading.proofs.TreeWithin.{Ends}
 use Rattle.reading.proofs.Promise.{after-within}
@@ -44,92 +47,122 @@ pad n d xs h =
 
 -- ---- a section's state tells how its reading ended
 
-names-stopped : (s : List ℕ) (st r : Names) (o : Outcome Named) → Gathers s st o r → r .good ≡ false → o ≡ refused (r .refusal)
-names-stopped s st r (refused f) g e = ap refused (sym (g .1))
-names-stopped s st r (read n) g e = absurd (true-not-false (r .good) (g .good) e)
-
-names-done : (s : List ℕ) (st r : Names) (o : Outcome Named) → Gathers s st o r → r .good ≡ true → (n : Named) × (o ≡ read n) × Gathered s st n r
-names-done s st r (refused f) g e = absurd (true-not-false (r .good) e (g .0))
-names-done s st r (read n) g e = (n, refl, g)
-
-tree-stopped : (s : List ℕ) (r : State) (o : Outcome Grown) → Grows s (replicate mostNodes (slot Nil)) 0 o r → r .good ≡ false → o ≡ refused (r .refusal)
-tree-stopped s r (refused f) g e = ap refused (sym (g .1))
-tree-stopped s r (read n) g e = absurd (true-not-false (r .good) (g .good) e)
-
-tree-done : (s : List ℕ) (r : State) (o : Outcome Grown) → Grows s (replicate mostNodes (slot Nil)) 0 o r → r .good ≡ true
-    → (g : Grown) × (o ≡ read g) × Grew s (replicate mostNodes (slot Nil)) 0 g r
-tree-done s r (refused f) g e = absurd (true-not-false (r .good) e (g .0))
-tree-done s r (read n) g e = (n, refl, g)
+-- `Says` is what the section's contract says of an outcome, by two fields of the state
+ended : {A : Type 0} (Says : Outcome A → Type 0) (good : Bool) (refusal : Refusal)
+    → ((f : Refusal) → Says (refused f) → (good ≡ false) × (refusal ≡ f)) → ((a : A) → Says (read a) → good ≡ true) → (o : Outcome A) → Says o
+    → (good ≡ false → o ≡ refused refusal) × (good ≡ true → (a : A) × (o ≡ read a) × Says (read a))
+ended Says good refusal bad well (refused f) w = ((λ e. ap refused (sym (bad f w .1))), λ e. absurd (true-not-false good e (bad f w .0)))
+ended Says good refusal bad well (read a) w = ((λ e. absurd (true-not-false good (well a w) e)), λ e. (a, refl, w))
 
 -- ---- what follows the head
 
 module _ (s : List ℕ) (h : Head) (cursor : Cursor) (within : HeadWithin h)
     (none names : Names) (fresh : FreshNames cursor none)
     (gathers : Gathers s none (readNames (h .names) h 0 (placeAt s (none .cursor))) names) where
-  gathers-there : Gathers s none (readNames (h .names) h 0 (placeAt s cursor)) names
-  gathers-there = subst (λ (c : Cursor). Gathers s none (readNames (h .names) h 0 (placeAt s c)) names) (fresh .there) gathers
+  reads-names : Outcome Named
+  reads-names = readNames (h .names) h 0 (placeAt s cursor)
+
+  names-end : (names .good ≡ false → reads-names ≡ refused (names .refusal))
+      × (names .good ≡ true → (n : Named) × (reads-names ≡ read n) × Gathered s none n names)
+  unfolding reads-names
+  names-end =
+      let there = subst (λ (c : Cursor). Gathers s none (readNames (h .names) h 0 (placeAt s c)) names) (fresh .there) gathers in
+      ended (λ o. Gathers s none o names) (names .good) (names .refusal) (λ f w. w) (λ n w. w .good) reads-names there
 
   pub after-names : names .good ≡ false → refused (names .refusal) ≡ afterHead h (placeAt s cursor)
-  unfolding afterHead
-  after-names e = sym (rw (names-stopped s none names (readNames (h .names) h 0 (placeAt s cursor)) gathers-there e))
+  unfolding afterHead reads-names
+  after-names e = sym (rw (names-end .0 e))
 
   module _ (good : names .good ≡ true) where
-    done : (n : Named) × (readNames (h .names) h 0 (placeAt s cursor) ≡ read n) × Gathered s none n names
-    done = names-done s none names (readNames (h .names) h 0 (placeAt s cursor)) gathers-there good
+    done : (n : Named) × (reads-names ≡ read n) × Gathered s none n names
+    done = names-end .1 good
 
     pub names-stand : StandsIn s (names .cursor)
     names-stand = done .2 .stands
 
-    module _ (bare state : State) (clear : FreshState (names .cursor) bare)
-        (grows : Grows s (bare .nodes) (bare .count) (readTree mostDepth h (meaningIn (names .scope)) (bare .count) (placeAt s (bare .cursor))) state) where
-      scope-there : meaningIn (names .scope) ≡ naming noNames (done .0 .names)
-      scope-there = done .2 .scope ∙ ap (λ z. naming z (done .0 .names)) (fresh .scope)
+    module _ (blank offers : Offers) (empty : FreshOffers (names .cursor) blank)
+        (lays : Lays s blank (readOffers h 0 (blank .cursor .line) (restAt s (blank .cursor .at))) offers) where
+      reads-offers : Outcome Offered
+      reads-offers = readOffers h 0 (done .0 .after .line) (done .0 .after .left)
 
-      grows-there : Grows s (replicate mostNodes (slot Nil)) 0 (readTree mostDepth h (naming noNames (done .0 .names)) 0 (done .0 .after)) state
-      grows-there = rw (clear .nodes, clear .none, clear .there, scope-there, ← done .2 .place) at grows
+      offers-end : (offers .good ≡ false → reads-offers ≡ refused (offers .refusal))
+          × (offers .good ≡ true → (n : Offered) × (reads-offers ≡ read n) × Laid s blank n offers)
+      unfolding reads-offers
+      offers-end =
+          let place = sym (done .2 .place ∙ ap (placeAt s) (sym (empty .there))) in
+          let there = subst (λ (p : Place). Lays s blank (readOffers h 0 (p .line) (p .left)) offers) place lays in
+          ended (λ o. Lays s blank o offers) (offers .good) (offers .refusal) (λ f w. w) (λ n w. w .good) reads-offers there
 
-      pub after-tree : state .good ≡ false → refused (state .refusal) ≡ afterHead h (placeAt s cursor)
-      unfolding afterHead
-      after-tree e =
-          let o = readTree mostDepth h (naming noNames (done .0 .names)) 0 (done .0 .after) in
-          sym (rw (done .1, tree-stopped s state o grows-there e))
+      pub after-offers : offers .good ≡ false → refused (offers .refusal) ≡ afterHead h (placeAt s cursor)
+      unfolding afterHead reads-names reads-offers
+      after-offers e = sym (rw (done .1, offers-end .0 e))
 
-      module _ (grown : state .good ≡ true) where
-        whole : (g : Grown) × (readTree mostDepth h (naming noNames (done .0 .names)) 0 (done .0 .after) ≡ read g) × Grew s (replicate mostNodes (slot Nil)) 0 g state
-        whole = tree-done s state (readTree mostDepth h (naming noNames (done .0 .names)) 0 (done .0 .after)) grows-there grown
+      module _ (laid : offers .good ≡ true) where
+        offered : (n : Offered) × (reads-offers ≡ read n) × Laid s blank n offers
+        offered = offers-end .1 laid
 
-        plan : Plan
-        plan = record { head = h; names = done .0 .names; tree = whole .0 .tree }
+        pub offers-stand : StandsIn s (offers .cursor)
+        offers-stand = offered .2 .stands
 
-        ends : afterHead h (placeAt s cursor) ≡ closed (placeAt s (state .cursor)) (restAt s (state .cursor .at)) plan
-        unfolding afterHead plan
-        ends = rw (done .1, whole .1, whole .2 .place)
+        module _ (bare state : State) (clear : FreshState (offers .cursor) bare)
+            (grows : Grows s (bare .nodes) (bare .count) (readTree mostDepth h (meaningIn (names .scope)) (bare .count) (placeAt s (bare .cursor))) state) where
+          scope-there : meaningIn (names .scope) ≡ naming noNames (done .0 .names)
+          scope-there = done .2 .scope ∙ ap (λ z. naming z (done .0 .names)) (fresh .scope)
 
-        pub after-more : state .cursor .at < length s → refused (record { number = 13; line = state .cursor .line }) ≡ afterHead h (placeAt s cursor)
-        after-more l = sym (ends ∙ rw (rest-split s (state .cursor .at) l))
+          reads-tree : Outcome Grown
+          reads-tree = readTree mostDepth h (naming noNames (done .0 .names)) 0 (offered .0 .after)
 
-        pub after-all : (r : Reading) → length s ≤ state .cursor .at
-            → r ≡ record { refusal = noRefusal; head = h; names = names .names; count = state .count; nodes = state .nodes }
-            → r ≡ readingOf (afterHead h (placeAt s cursor))
-        unfolding plan
-        after-all r l made =
-            let all : afterHead h (placeAt s cursor) ≡ read plan = ends ∙ rw (rest-none s (state .cursor .at) l) in
-            let m = cursor .line + length (restAt s (cursor .at)) in
-            let w : PlanWithin plan = subst (Ends m PlanWithin) all (after-within m h (placeAt s cursor) within (omega arith)) in
-            let counted : length (done .0 .names) ≡ h .names = w .counted in
-            let few : length (listing (whole .0 .tree)) ≤ mostNodes = w .few in
-            let room : h .names ≤ mostNames = within .names in
-            let listed : names .names ≡ padded mostNames noName (done .0 .names) =
-            done .2 .names
-            ∙ ap (λ l. sets l (none .count) (done .0 .names)) (fresh .names)
-            ∙ ap (λ k. sets (replicate mostNames noName) k (done .0 .names)) (fresh .none)
-            ∙ pad mostNames noName (done .0 .names) (omega arith) in
-            let total : state .count ≡ length (listing (whole .0 .tree)) = whole .2 .count ∙ omega arith in
-            let nodes : state .nodes ≡ padded mostNodes (slot Nil) (map slot (listing (whole .0 .tree))) =
-            whole .2 .nodes ∙ pad mostNodes (slot Nil) (map slot (listing (whole .0 .tree))) (rw (length-map (listing (whole .0 .tree)) slot) few) in
-            made
-            ∙ (λ i. record { refusal = noRefusal; head = h; names = listed i; count = total i; nodes = nodes i })
-            ∙ ap readingOf (sym all)
+          fresh-nodes : List Slot
+          fresh-nodes = replicate mostNodes (slot Nil)
+
+          tree-end : (state .good ≡ false → reads-tree ≡ refused (state .refusal))
+              × (state .good ≡ true → (g : Grown) × (reads-tree ≡ read g) × Grew s fresh-nodes 0 g state)
+          unfolding reads-tree fresh-nodes
+          tree-end =
+              let there = rw (clear .nodes, clear .none, clear .there, scope-there, ← offered .2 .place) at grows in
+              ended (λ o. Grows s fresh-nodes 0 o state) (state .good) (state .refusal) (λ f w. w) (λ n w. w .good) reads-tree there
+
+          pub after-tree : state .good ≡ false → refused (state .refusal) ≡ afterHead h (placeAt s cursor)
+          unfolding afterHead reads-names reads-offers reads-tree
+          after-tree e = sym (rw (done .1, offered .1, tree-end .0 e))
+
+          module _ (grown : state .good ≡ true) where
+            whole : (g : Grown) × (reads-tree ≡ read g) × Grew s fresh-nodes 0 g state
+            whole = tree-end .1 grown
+
+            plan : Plan
+            plan = record { head = h; names = done .0 .names; offers = offered .0 .offers; tree = whole .0 .tree }
+
+            ends : afterHead h (placeAt s cursor) ≡ closed (placeAt s (state .cursor)) (restAt s (state .cursor .at)) plan
+            unfolding afterHead reads-names reads-offers reads-tree plan
+            ends = rw (done .1, offered .1, whole .1, whole .2 .place)
+
+            pub after-more : state .cursor .at < length s → refused (record { number = 13; line = state .cursor .line }) ≡ afterHead h (placeAt s cursor)
+            after-more l = sym (ends ∙ rw (rest-split s (state .cursor .at) l))
+
+            pub after-all : (r : Reading) → length s ≤ state .cursor .at
+                → r ≡ record { refusal = noRefusal; head = h; names = names .names; offers = offers .row; count = state .count; nodes = state .nodes }
+                → r ≡ readingOf (afterHead h (placeAt s cursor))
+            unfolding plan fresh-nodes
+            after-all r l made =
+                let all : afterHead h (placeAt s cursor) ≡ read plan = ends ∙ rw (rest-none s (state .cursor .at) l) in
+                let m = cursor .line + length (restAt s (cursor .at)) in
+                let w : PlanWithin plan = subst (Ends m PlanWithin) all (after-within m h (placeAt s cursor) within (omega arith)) in
+                let counted : length (done .0 .names) ≡ h .names = w .counted in
+                let few : length (listing (whole .0 .tree)) ≤ mostNodes = w .few in
+                let room : h .names ≤ mostNames = within .names in
+                let listed : names .names ≡ padded mostNames noName (done .0 .names) =
+                done .2 .names
+                ∙ ap (λ l. sets l (none .count) (done .0 .names)) (fresh .names)
+                ∙ ap (λ k. sets (replicate mostNames noName) k (done .0 .names)) (fresh .none)
+                ∙ pad mostNames noName (done .0 .names) (omega arith) in
+                let row : offers .row ≡ offerRow (offered .0 .offers) = offered .2 .row ∙ ap (λ l. laying l (offered .0 .offers)) (empty .row) in
+                let total : state .count ≡ length (listing (whole .0 .tree)) = whole .2 .count ∙ omega arith in
+                let nodes : state .nodes ≡ padded mostNodes (slot Nil) (map slot (listing (whole .0 .tree))) =
+                whole .2 .nodes ∙ pad mostNodes (slot Nil) (map slot (listing (whole .0 .tree))) (rw (length-map (listing (whole .0 .tree)) slot) few) in
+                made
+                ∙ (λ i. record { refusal = noRefusal; head = h; names = listed i; offers = row i; count = total i; nodes = nodes i })
+                ∙ ap readingOf (sym all)
 
 -- ---- the whole text, by what the first line said
 

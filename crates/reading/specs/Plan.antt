@@ -1,19 +1,21 @@
--- Document 01, 'Plan text' and 'Refusal numbers': from a text to a plan or its one refusal, line by line in order; what one line says is the crate `lines`.
+-- Document 01, 'Plan text' and 'Refusal numbers', and document 02's order 1: from a text to a plan or its one refusal, line by line in order; what one line says is the crate `lines`.
 -- Assumes nothing.
 use Prim.Native.Nat.{ℕ, zero, suc, _+_, _-_}
 use mathlib.Core.Bool.{Bool, cond, _||_}
 use mathlib.Core.List.{List, [], _∷_, _++_, map}
-use lib.ListN.{length, replicate}
+use lib.ListN.{length, replicate, set}
 use lib.Dec.{ltb, eqb}
 use Rattle.lines.specs.declared.FreeName.{FreeName}
 use Rattle.lines.specs.declared.Head.{Head}
 use Rattle.lines.specs.declared.Node.{Node}
+use Rattle.lines.specs.declared.Offer.{Offer}
 use Rattle.lines.specs.declared.Node.the-variants.{Nil, Silent, Send, Receive, Sum, Parallel, Restriction, Match, Replication, Bracket}
-use Rattle.limits.specs.Limits.{longest, mostNames, mostNodes, mostDepth}
+use Rattle.sets.specs.Rows.{SetRow, emptyRow}
+use Rattle.limits.specs.Limits.{longest, mostChannels, mostNames, mostNodes, mostDepth}
 use Rattle.lines.specs.Text.{Line, linesOf, rest}
-use Rattle.lines.specs.Frames.{Judged, faulty, fine}
+use Rattle.lines.specs.Frames.{Judged, faulty, fine, Next, here, over}
 use Rattle.lines.specs.Scope.{Scope, noNames, naming, inside}
-use Rattle.lines.specs.Line.{firstHead, nextName, nextNode}
+use Rattle.lines.specs.Line.{firstHead, nextName, nextOffer, nextNode}
 use Rattle.reading.specs.declared.Reading.{Reading}
 use Rattle.reading.specs.declared.Refusal.{Refusal}
 use Rattle.reading.specs.declared.Slot.{Slot}
@@ -63,6 +65,27 @@ readNames (suc many) h least place =
     judged place (nextName h least (place .left)) λ name.
     andThen (readNames many h (name .name + 1) (onward place)) λ named. read (before name named)
 
+-- ---- the offers
+
+-- offers, and where reading stands behind them
+pub record Offered : Type 0 where
+  pub offers : List Offer
+  pub after : Place
+
+-- an offer and those behind it; none, where the offers are over
+abbrev pub offersFrom : Place → (Offer → Outcome Offered) → Next Offer → Outcome Offered
+offersFrom place behind (here offer) =
+    andThen (behind offer) λ offered. read (record { offers = offer ∷ offered .offers; after = offered .after })
+offersFrom place behind over = read (record { offers = []; after = place })
+
+-- offers on channels that are `least` or more, strictly ascending, as many as stand on these lines, the first of which has the number `line`; 12 where
+-- none is left
+unfoldable pub readOffers : Head → ℕ → ℕ → List Line → Outcome Offered
+readOffers h least line [] = refuse (record { line = line; left = [] }) 12
+readOffers h least line (l ∷ ls) =
+    let place : Place = record { line = line; left = l ∷ ls } in
+    judged place (nextOffer h least (l ∷ ls)) (offersFrom place λ offer. readOffers h (offer .channel + 1) (line + 1) ls)
+
 -- ---- the tree
 
 -- a tree, and where reading stands behind it
@@ -106,10 +129,11 @@ readTree (suc depth) h scope count place =
 
 -- ---- the whole text
 
--- a plan: its head, its free names and its tree
+-- a plan: its head, its free names, its offers and its tree
 pub record Plan : Type 0 where
   pub head : Head
   pub names : List FreeName
+  pub offers : List Offer
   pub tree : Tree
 
 -- the tree has closed: 13 where a line is left, without looking at it
@@ -117,12 +141,14 @@ abbrev pub closed : Place → List Line → Plan → Outcome Plan
 closed place [] plan = read plan
 closed place (l ∷ ls) plan = refuse place 13
 
--- what follows the head: the free names, the tree, and nothing more
+-- what follows the head: the free names, the offers, the tree, and nothing more
 unfoldable pub afterHead : Head → Place → Outcome Plan
 afterHead h place =
     andThen (readNames (h .names) h 0 place) λ named.
-    andThen (readTree mostDepth h (naming noNames (named .names)) 0 (named .after)) λ grown.
-    closed (grown .after) (grown .after .left) (record { head = h; names = named .names; tree = grown .tree })
+    andThen (readOffers h 0 (named .after .line) (named .after .left)) λ offered.
+    andThen (readTree mostDepth h (naming noNames (named .names)) 0 (offered .after)) λ grown.
+    closed (grown .after) (grown .after .left)
+    (record { head = h; names = named .names; offers = offered .offers; tree = grown .tree })
 
 unfoldable pub readPlan : Place → Outcome Plan
 readPlan place = judged place (firstHead (place .left)) λ h. afterHead h (onward place)
@@ -156,15 +182,32 @@ noHead = record { channels = 0; binders = 0; top = 0; names = 0 }
 abbrev pub noRefusal : Refusal
 noRefusal = record { number = 0; line = 0 }
 
+-- each offer laid in a row of sets at its channel
+abbrev pub laying : SetRow → List Offer → SetRow
+laying row [] = row
+laying row (offer ∷ offers) = laying (set row (offer .channel) (offer .set)) offers
+
+-- for each channel what is offered on it, and the empty set where nothing is
+abbrev pub offerRow : List Offer → SetRow
+offerRow = laying (emptyRow mostChannels)
+
 -- a refused text gives nothing read
 abbrev pub readingOf : Outcome Plan → Reading
 readingOf (refused f) =
-    record { refusal = f; head = noHead; names = replicate mostNames noName; count = 0; nodes = replicate mostNodes (slot Nil) }
+    record {
+      refusal = f;
+      head = noHead;
+      names = replicate mostNames noName;
+      offers = offerRow [];
+      count = 0;
+      nodes = replicate mostNodes (slot Nil);
+    }
 readingOf (read p) =
     record {
       refusal = noRefusal;
       head = p .head;
       names = padded mostNames noName (p .names);
+      offers = offerRow (p .offers);
       count = length (listing (p .tree));
       nodes = padded mostNodes (slot Nil) (map slot (listing (p .tree)));
     }

@@ -1,5 +1,5 @@
--- What reading promises of every text: a refusal has a number from 1 to 13 and a line that fits two bytes; a plan keeps document 01's limits,
--- and every marker in it is that of a free name, of an enclosing restriction or of an enclosing receive.
+-- What reading promises of every text: a refusal has one of reading's numbers and a line that fits two bytes; a plan keeps document 01's limits, its
+-- offers are below C, ascend and are not empty, and every marker in it is that of a free name, of an enclosing restriction or of an enclosing receive.
 -- Assumes nothing.
 use Prim.Native.Nat.{ℕ, _+_, _^_, _≤_, _<_}
 use mathlib.Core.Path.{_≡_}
@@ -10,8 +10,9 @@ use Rattle.lines.specs.declared.Head.{Head}
 use Rattle.lines.specs.declared.Marker.{Marker}
 use Rattle.lines.specs.declared.Marker.the-variants.{Channel, Binder}
 use Rattle.lines.specs.declared.Node.{Node}
+use Rattle.lines.specs.declared.Offer.{Offer}
 use Rattle.limits.specs.Limits.{mostNodes, mostDepth}
-use Rattle.lines.specs.Promise.{HeadWithin, NameWithin, NodeWithin, IsGiven}
+use Rattle.lines.specs.Promise.{OfReading, HeadWithin, NameWithin, OfferWithin, NodeWithin, IsGiven}
 use Rattle.reading.specs.Tree.{Tree, nil, silent, send, receive, sum, parallel, restriction, match, replication, bracket, listing, depth}
 use Rattle.reading.specs.Plan.{Outcome, refused, read, Plan}
 
@@ -22,6 +23,11 @@ abbrev pub NamesWithin : Head → ℕ → List FreeName → Type 0
 NamesWithin h least [] = Unit {0}
 NamesWithin h least (f ∷ fs) =
     NameWithin h least f × NamesWithin h (f .name + 1) fs
+
+abbrev pub OffersWithin : Head → ℕ → List Offer → Type 0
+OffersWithin h least [] = Unit {0}
+OffersWithin h least (offer ∷ offers) =
+    OfferWithin h least offer × OffersWithin h (offer .channel + 1) offers
 
 abbrev pub EachWithin : Head → List Node → Type 0
 EachWithin h [] = Unit {0}
@@ -53,11 +59,12 @@ pub record PlanWithin (p : Plan) : Type 0 where
   pub head : HeadWithin (p .head)
   pub counted : length (p .names) ≡ p .head .names
   pub names : NamesWithin (p .head) 0 (p .names)
+  pub offers : OffersWithin (p .head) 0 (p .offers)
   pub nodes : EachWithin (p .head) (listing (p .tree))
   pub few : length (listing (p .tree)) ≤ mostNodes
   pub shallow : depth (p .tree) ≤ mostDepth
   pub scoped : Scoped (givenBy (p .names) []) (p .tree)
 
 abbrev pub Kept : Outcome Plan → Type 0
-Kept (refused f) = (1 ≤ f .number) × (f .number ≤ 13) × (f .line < 2 ^ 16)
+Kept (refused f) = OfReading (f .number) × (f .line < 2 ^ 16)
 Kept (read p) = PlanWithin p

@@ -1,17 +1,20 @@
-// Reads a plan text: every text gets a reading, or one numbered refusal by document 01's order.
-// The way of the data: cursor (where reading stands), names and tree (the sections, read line by line by the crate `lines`), and the whole text
+// Reads a plan text: every text gets a reading, or one numbered refusal by the order of documents 01 and 02.
+// The way of the data: cursor (where reading stands), names, offers and tree (the sections, read line by line by the crate `lines`), and the whole text
 // here. Proved: `read` returns the document's reading of the text.
 ghost use mathlib.Core.Path.{_≡_};
 ghost use Rattle.lines.specs.Promise.{HeadWithin};
 ghost use Rattle.reading.specs.Plan.{Outcome, wrongLength, afterHead, planIn, readingOf};
-ghost use Rattle.reading.specs.inner.Working.{StandsIn, placeAt, FreshNames, FreshState};
+ghost use Rattle.reading.specs.inner.Working.{StandsIn, placeAt, FreshNames, FreshOffers, FreshState};
 use crate::cursor::Cursor;
 use crate::cursor::past;
 use crate::cursor::refuse;
 use crate::names::Names;
 use crate::names::read_names;
+use crate::offers::Offers;
+use crate::offers::read_offers;
 use crate::tree::State;
 use crate::tree::read_node;
+use limits::CHANNEL_SETS;
 use limits::LONGEST;
 use limits::MOST_DEPTH;
 use limits::MOST_NAMES;
@@ -22,9 +25,11 @@ use lines::Node;
 use lines::Opening;
 use lines::first_head;
 use lines::scope::no_names;
+use sets::Set;
 
 mod cursor;
 mod names;
+mod offers;
 mod tree;
 
 // A place for one node.
@@ -38,11 +43,13 @@ pub struct Refusal {
     pub line: u16,
 }
 
-// What a text says. Unused places hold zero, or nil for a node; a refused text says nothing.
+// What a text says, with a set for each channel of the handles that are offered on it. Unused places hold zero, or nil for a node, and an empty
+// set where nothing is offered; a refused text says nothing.
 pub struct Reading {
     pub refusal: Refusal,
     pub head: Head,
     pub names: [FreeName; MOST_NAMES],
+    pub offers: [Set; CHANNEL_SETS],
     pub count: usize,
     pub nodes: [Slot; MOST_NODES],
 }
@@ -63,6 +70,8 @@ fn refused(refusal: Refusal) -> Reading
         channel: 0,
     };
     let names = [name; MOST_NAMES];
+    let none = sets::empty();
+    let offers = [none; CHANNEL_SETS];
     let slot = Slot { node: Node::Nil };
     let nodes = [slot; MOST_NODES];
     Reading {
@@ -74,6 +83,7 @@ fn refused(refusal: Refusal) -> Reading
             names: 0,
         },
         names,
+        offers,
         count: 0,
         nodes,
     }
@@ -95,6 +105,20 @@ fn fresh_names(cursor: Cursor) -> Names
         count: 0,
         names,
         scope: no_names(),
+    }
+}
+
+// No offer yet.
+fn fresh_offers(cursor: Cursor) -> Offers
+    ensures { λ r. ⌜ FreshOffers cursor r ⌝ }
+{
+    let none = sets::empty();
+    let row = [none; CHANNEL_SETS];
+    Offers {
+        good: true,
+        refusal: no_refusal(),
+        cursor,
+        row,
     }
 }
 
@@ -122,8 +146,12 @@ fn after_head(text: &[u8], head: Head, cursor: Cursor) -> Reading
     if !names.good {
         return refused(names.refusal);
     }
+    let offers = read_offers(text, head, 0, fresh_offers(names.cursor));
+    if !offers.good {
+        return refused(offers.refusal);
+    }
     let scope = names.scope;
-    let state = read_node(text, head, scope, MOST_DEPTH, fresh_state(names.cursor));
+    let state = read_node(text, head, scope, MOST_DEPTH, fresh_state(offers.cursor));
     if !state.good {
         return refused(state.refusal);
     }
@@ -132,11 +160,13 @@ fn after_head(text: &[u8], head: Head, cursor: Cursor) -> Reading
         return refused(refuse(end, 13));
     }
     let listed = names.names;
+    let offered = offers.row;
     let nodes = state.nodes;
     Reading {
         refusal: no_refusal(),
         head,
         names: listed,
+        offers: offered,
         count: state.count,
         nodes,
     }

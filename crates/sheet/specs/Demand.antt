@@ -4,6 +4,7 @@ use Prim.Native.Nat.{ℕ, _<_, _≤_}
 use mathlib.Core.Path.{_≡_}
 use mathlib.Core.List.{List, [], _∷_, _++_}
 use lib.ListN.{length, drop}
+use Rattle.lines.specs.Promise.{OfReading}
 use Rattle.reading.specs.declared.Refusal.{Refusal}
 use Rattle.reading.specs.Plan.{refused, read, Plan, planIn}
 use Rattle.solving.specs.Rounds.{Exceeds}
@@ -19,13 +20,12 @@ use Rattle.sheet.specs.Write.{valuesOf}
 abbrev pub refusalOf : Refusal → Answer
 refusalOf f = record { solved = refusedBy f; verdict = Unjudged }
 
--- a refusal of reading: its number is one of 1 to 13
+-- a refusal of reading, by its number
 pub record IsRefusal (f : Refusal) (a : Answer) : Type 0 where
-  pub least : 1 ≤ f .number
-  pub most : f .number ≤ 13
+  pub number : OfReading (f .number)
   pub is : a ≡ refusalOf f
 
--- every text has an answer, and one only; where reading refuses it, by document 01's order, that is the refusal, and where the count of a plan
+-- every text has an answer, and one only; where reading refuses it, by the documents' order, that is the refusal, and where the count of a plan
 -- exceeds the allowance it is 14. For a buffer that is shorter than the sheet 15 and the length needed are returned and the buffer is
 -- untouched; for any other the sheet's length is returned, and just the sheet's bytes are written
 pub record Demand1 (text : List ℕ) (allowance : ℕ) (before : List ℕ) (returned : Written) (after : List ℕ) : Type 0 where
@@ -33,7 +33,7 @@ pub record Demand1 (text : List ℕ) (allowance : ℕ) (before : List ℕ) (retu
   pub judged : Judges (planIn text) allowance answer
   pub only : (a : Answer) → Judges (planIn text) allowance a → a ≡ answer
   pub refusals : (f : Refusal) → planIn text ≡ refused f → IsRefusal f answer
-  pub over : (plan : Plan) → planIn text ≡ read plan → Exceeds (plan .tree) allowance → answer ≡ refusalOf overAllowance
+  pub over : (plan : Plan) → planIn text ≡ read plan → Exceeds plan allowance → answer ≡ refusalOf overAllowance
   pub untouched : length before < length (sheetOf answer) → (valuesOf returned ≡ 15 ∷ length (sheetOf answer) ∷ []) × (after ≡ before)
   pub written : length (sheetOf answer) ≤ length before
       → (valuesOf returned ≡ 0 ∷ length (sheetOf answer) ∷ []) × (after ≡ sheetOf answer ++ drop (length (sheetOf answer)) before)

@@ -1,8 +1,6 @@
 -- Document 01, 'The sheet': its lines in order, a line as bytes, and the whole as characters.
 -- Assumes nothing.
 use Prim.Native.Nat.{ℕ, _+_, _/_, _%_}
-use Prim.Native.String as S
-use Prim.Native.String.{String}
 use mathlib.Core.Bool.{cond}
 use mathlib.Core.Path.{_≡_}
 use mathlib.Core.List.{List, [], _∷_, _++_}

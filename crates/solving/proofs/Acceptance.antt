@@ -1,15 +1,16 @@
 -- Acceptable is: everything that a round wants is there. And what is wanted grows with the solution.
--- Both go clause by clause, down the tree. Assumes nothing.
+-- Both go clause by clause, down the tree; the offers ask the same of every solution. Assumes nothing.
 use Prim.Native.Nat.{ℕ}
-use mathlib.Core.Path.{refl, subst⁻¹}
+use mathlib.Core.Path.{_≡_, refl, subst, subst⁻¹}
 use mathlib.Core.Logic.{_↔_, inl, inr, ⊎-elim}
 use Rattle.limits.specs.Limits.{outermost}
 use Rattle.lines.specs.declared.Marker.{Marker}
 use Rattle.lines.specs.declared.Marker.the-variants.{Channel, Binder}
+use Rattle.reading.specs.Plan.{Plan}
 use Rattle.reading.specs.Tree.{Tree, nil, silent, send, receive, sum, parallel, restriction, match, replication, bracket}
 use Rattle.solving.specs.Solutions.{Fact, binderSet, inSet, outSet, Sets, SetOf, Contained}
-use Rattle.solving.specs.Clauses.{Some, Heard, Meets, Holds, Acceptable}
-use Rattle.solving.specs.Rounds.{SendWants, ReceiveWants, BracketWants, Wants, Settled}
+use Rattle.solving.specs.Clauses.{Some, Heard, Meets, Holds, IsOffered, Acceptable}
+use Rattle.solving.specs.Rounds.{SendWants, ReceiveWants, BracketWants, Wants, OfferWants, Wanted, Settled}
 
 -- ---- acceptable is: everything wanted is there
 
@@ -68,8 +69,27 @@ holding (bracket m p) l s k = (
   (λ c o h. k (outSet l c o) (inr (refl, h))),
 )
 
-pub acceptable-iff : (p : Tree) (s : Sets) → Acceptable p s ↔ Settled p s
-acceptable-iff p s = (filled p outermost s, holding p outermost s)
+offered : (p : Plan) (s : Sets) → Acceptable p s → (f : Fact) → OfferWants (p .offers) f → s f
+offered p s a (binderSet b o) w = absurd w
+offered p s a (inSet m c o) w = absurd w
+offered p s a (outSet m c o) w = subst⁻¹ (λ n. s (outSet n c o)) (w .0) (a .offers c o (w .1))
+
+pub acceptable-iff : (p : Plan) (s : Sets) → Acceptable p s ↔ Settled p s
+acceptable-iff p s = (
+  (λ a f. ⊎-elim (filled (p .tree) outermost s (a .root) f) (offered p s a f)),
+  (λ k. record {
+    root = holding (p .tree) outermost s (λ f w. k f (inl w));
+    offers = λ c o h. k (outSet outermost c o) (inr (refl, h));
+  }),
+)
+
+-- what is acceptable with more offers is acceptable with fewer
+pub fewer-offers : (p q : Plan) → q .tree ≡ p .tree → ((c o : ℕ) → IsOffered (p .offers) c o → IsOffered (q .offers) c o) → (s : Sets)
+    → Acceptable q s → Acceptable p s
+fewer-offers p q same fewer s a = record {
+  root = subst (λ (t : Tree). Holds t outermost s) same (a .root);
+  offers = λ c o w. a .offers c o (fewer c o w);
+}
 
 -- ---- what is wanted grows with the solution
 
@@ -104,7 +124,7 @@ module _ (s t : Sets) (h : Contained s t) where
   bracket-grows m l (inSet j c o) v = (v .0, h (inSet m c o) (v .1))
   bracket-grows m l (outSet j c o) v = (v .0, h (outSet m c o) (v .1))
 
-  pub wants-grows : (p : Tree) (l : ℕ) (f : Fact) → Wants p l s f → Wants p l t f
+  wants-grows : (p : Tree) (l : ℕ) (f : Fact) → Wants p l s f → Wants p l t f
   wants-grows nil l f w = w
   wants-grows (silent p) l f w = wants-grows p l f w
   wants-grows (restriction x c p) l f w = wants-grows p l f w
@@ -119,3 +139,6 @@ module _ (s t : Sets) (h : Contained s t) where
       (heard-grows x (w .0), ⊎-elim (λ v. inl (wants-grows p l f v)) (λ v. inr (receive-grows x b l f v)) (w .1))
   wants-grows (match x y p) l f w = (meets-grows x y (w .0), wants-grows p l f (w .1))
   wants-grows (bracket m p) l f w = ⊎-elim (λ v. inl (wants-grows p m f v)) (λ v. inr (bracket-grows m l f v)) w
+
+  pub wanted-grows : (p : Plan) (f : Fact) → Wanted p s f → Wanted p t f
+  wanted-grows p f = ⊎-elim (λ w. inl (wants-grows (p .tree) outermost f w)) inr

@@ -8,14 +8,13 @@ use mathlib.Core.Logic.{_↔_, _⊎_, inl, inr, ⊎-elim}
 use native.Mathlib.Omega.{arith}
 use native.Mathlib.Decide.{ℕ-discrete}
 use lib.Dec.{T, eqb, eqb→eq, eqb-refl}
-use Rattle.limits.specs.Limits.{outermost}
-use Rattle.reading.specs.Tree.{Tree}
+use Rattle.sets.proofs.Listed.{Mem}
+use Rattle.reading.specs.Plan.{Plan}
 use Rattle.solving.specs.Solutions.{Fact, binderSet, inSet, outSet}
 use Rattle.solving.specs.Rounds.{Wanted, Settled, after, Count}
-use Rattle.solving.specs.inner.Compute.{wanted, sameFact, hasFact, addAll, allIn, Run, unfinished, settled, run}
-use Rattle.solving.proofs.Acceptance.{wants-grows}
-use Rattle.solving.proofs.Lists.{Mem}
-use Rattle.solving.proofs.WantedLists.{listed, wanted-is}
+use Rattle.solving.specs.inner.Compute.{roundWanted, sameFact, hasFact, addAll, allIn, Run, unfinished, settled, run}
+use Rattle.solving.proofs.Acceptance.{wanted-grows}
+use Rattle.solving.proofs.WantedLists.{listed, round-wanted}
 
 -- ---- tests on facts
 
@@ -93,43 +92,43 @@ all-in-is (w ∷ ws) s = go (hasFact w s) refl (all-in-is ws s)
 -- ---- the rounds
 
 -- where s holds what there is after n rounds
-module _ (p : Tree) (n : ℕ) (s : List Fact) (e : (f : Fact) → after p n f ↔ Mem f s) where
-  wanted-after : (f : Fact) → Wanted p (after p n) f ↔ Mem f (wanted p outermost s)
+module _ (p : Plan) (n : ℕ) (s : List Fact) (e : (f : Fact) → after p n f ↔ Mem f s) where
+  wanted-after : (f : Fact) → Wanted p (after p n) f ↔ Mem f (roundWanted p s)
   wanted-after f =
-      let w = wanted-is s p outermost f in (
-        (λ h. w .1 (wants-grows (after p n) (listed s) (λ g. e g .0) p outermost f h)),
-        (λ m. wants-grows (listed s) (after p n) (λ g. e g .1) p outermost f (w .0 m)),
+      let w = round-wanted s p f in (
+        (λ h. w .1 (wanted-grows (after p n) (listed s) (λ g. e g .0) p f h)),
+        (λ m. wanted-grows (listed s) (after p n) (λ g. e g .1) p f (w .0 m)),
       )
 
-  pub one-more : (f : Fact) → after p (suc n) f ↔ Mem f (addAll s (wanted p outermost s))
+  pub one-more : (f : Fact) → after p (suc n) f ↔ Mem f (addAll s (roundWanted p s))
   one-more f =
-      let a = add-is f s (wanted p outermost s) in (
+      let a = add-is f s (roundWanted p s) in (
         (λ h. a .1 (⊎-elim (λ z. inl (e f .0 z)) (λ z. inr (wanted-after f .0 z)) h)),
         (λ m. ⊎-elim (λ z. inl (e f .1 z)) (λ z. inr (wanted-after f .1 z)) (a .0 m)),
       )
 
-  pub quiet-is : T (allIn (wanted p outermost s) s) ↔ Settled p (after p n)
+  pub quiet-is : T (allIn (roundWanted p s) s) ↔ Settled p (after p n)
   quiet-is =
-      let a = all-in-is (wanted p outermost s) s in (
+      let a = all-in-is (roundWanted p s) s in (
         (λ t f w. e f .1 (a .0 t f (wanted-after f .0 w))),
         (λ i. a .1 (λ f m. e f .0 (i f (wanted-after f .1 m)))),
       )
 
 -- what a run says, where it may go up to `limit` rounds
-abbrev pub RunIs : Tree → ℕ → Run → Type 0
+abbrev pub RunIs : Plan → ℕ → Run → Type 0
 RunIs p limit unfinished = (j : ℕ) → j < limit → Settled p (after p j) → ⊥
 RunIs p limit (settled n s) = (c : Count p n) × (n ≤ limit) × ((f : Fact) → after p (c .earlier) f ↔ Mem f s)
 
-pub run-is : (p : Tree) (left n limit : ℕ) (s : List Fact) → n + left ≡ limit → ((f : Fact) → after p n f ↔ Mem f s)
+pub run-is : (p : Plan) (left n limit : ℕ) (s : List Fact) → n + left ≡ limit → ((f : Fact) → after p n f ↔ Mem f s)
     → ((j : ℕ) → j < n → Settled p (after p j) → ⊥) → RunIs p limit (run p left n s)
 unfolding run
 run-is p zero n limit s e h b = λ j l. b j (omega arith)
-run-is p (suc left) n limit s e h b = go (allIn (wanted p outermost s) s) refl
-    (λ busy. run-is p left (suc n) limit (addAll s (wanted p outermost s)) (omega arith) (one-more p n s h) busy)
+run-is p (suc left) n limit s e h b = go (allIn (roundWanted p s) s) refl
+    (λ busy. run-is p left (suc n) limit (addAll s (roundWanted p s)) (omega arith) (one-more p n s h) busy)
   where
-    go : (q : Bool) → allIn (wanted p outermost s) s ≡ q
-        → (((j : ℕ) → j < suc n → Settled p (after p j) → ⊥) → RunIs p limit (run p left (suc n) (addAll s (wanted p outermost s))))
-        → RunIs p limit (elim q [ true ↦ settled (suc n) s | false ↦ run p left (suc n) (addAll s (wanted p outermost s)) ])
+    go : (q : Bool) → allIn (roundWanted p s) s ≡ q
+        → (((j : ℕ) → j < suc n → Settled p (after p j) → ⊥) → RunIs p limit (run p left (suc n) (addAll s (roundWanted p s))))
+        → RunIs p limit (elim q [ true ↦ settled (suc n) s | false ↦ run p left (suc n) (addAll s (roundWanted p s)) ])
     go true q r = (record { earlier = n; is = refl; settled = quiet-is p n s h .0 (subst⁻¹ T q tt); first = b }, omega arith, h)
     go false q r = r (λ j l i. split j l i (ℕ-discrete j n))
       where
@@ -137,5 +136,5 @@ run-is p (suc left) n limit s e h b = go (allIn (wanted p outermost s) s) refl
         split j l i (yes z) = subst T q (quiet-is p n s h .1 (subst (λ k. Settled p (after p k)) z i))
         split j l i (no z) = b j (omega arith) i
 
-pub whole-run : (p : Tree) (allowance : ℕ) → RunIs p allowance (run p allowance 0 [])
+pub whole-run : (p : Plan) (allowance : ℕ) → RunIs p allowance (run p allowance 0 [])
 whole-run p allowance = run-is p allowance 0 allowance [] (omega arith) (λ f. (absurd, absurd)) (λ j l i. omega arith)

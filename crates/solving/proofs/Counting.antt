@@ -9,39 +9,39 @@ use native.Mathlib.Omega.{arith}
 use native.Mathlib.Decide.{decLe}
 use native.Mathlib.Nat.{mul-le-mul}
 use lib.Dec.{T}
-use Rattle.limits.specs.Limits.{highestLevel, outermost}
+use Rattle.limits.specs.Limits.{highestLevel}
+use Rattle.sets.proofs.Listed.{Mem}
 use Rattle.lines.specs.declared.Head.{Head}
 use Rattle.lines.specs.Promise.{HeadWithin}
-use Rattle.reading.specs.Promise.{EachWithin}
-use Rattle.reading.specs.Tree.{Tree, listing}
+use Rattle.reading.specs.Plan.{Plan}
+use Rattle.reading.specs.Promise.{PlanWithin}
 use Rattle.solving.specs.Solutions.{Fact}
 use Rattle.solving.specs.Rounds.{Settled, after, Count, mostRounds, roundCeiling}
-use Rattle.solving.specs.inner.Compute.{wanted, hasFact, addAll, Run, unfinished, settled, run}
-use Rattle.solving.proofs.Lists.{Mem}
+use Rattle.solving.specs.inner.Compute.{roundWanted, hasFact, addAll, Run, unfinished, settled, run}
 use Rattle.solving.proofs.Computed.{has-is, one-more, RunIs, whole-run}
 use Rattle.solving.proofs.Ranges.{after-within}
 use Rattle.solving.proofs.Sizes.{Test, size, size-le, size-less}
 
 -- the memberships after n rounds, listed
-listedAfter : Tree → ℕ → List Fact
+listedAfter : Plan → ℕ → List Fact
 listedAfter p zero = []
-listedAfter p (suc n) = addAll (listedAfter p n) (wanted p outermost (listedAfter p n))
+listedAfter p (suc n) = addAll (listedAfter p n) (roundWanted p (listedAfter p n))
 
-listed-is : (p : Tree) (n : ℕ) (f : Fact) → after p n f ↔ Mem f (listedAfter p n)
+listed-is : (p : Plan) (n : ℕ) (f : Fact) → after p n f ↔ Mem f (listedAfter p n)
 unfolding listedAfter
 listed-is p zero f = (absurd, absurd)
 listed-is p (suc n) f = one-more p n (listedAfter p n) (listed-is p n) f
 
-test : Tree → ℕ → Test
+test : Plan → ℕ → Test
 test p n f = hasFact f (listedAfter p n)
 
-test-is : (p : Tree) (n : ℕ) (f : Fact) → T (test p n f) ↔ after p n f
+test-is : (p : Plan) (n : ℕ) (f : Fact) → T (test p n f) ↔ after p n f
 unfolding test
 test-is p n f = Iff·trans (has-is f (listedAfter p n)) (Iff·symm (listed-is p n f))
 
-module _ (h : Head) (p : Tree) (g : EachWithin h (listing p)) where
+module _ (p : Plan) (g : PlanWithin p) where
   -- where the size does not grow, the round adds nothing
-  settled-of : (n : ℕ) → size h (test p (suc n)) ≤ size h (test p n) → Settled p (after p n)
+  settled-of : (n : ℕ) → size (p .head) (test p (suc n)) ≤ size (p .head) (test p n) → Settled p (after p n)
   settled-of n le f w = go (test p n f) refl
     where
       keeps : (e : Fact) → T (test p n e) → T (test p (suc n) e)
@@ -51,33 +51,33 @@ module _ (h : Head) (p : Tree) (g : EachWithin h (listing p)) where
       go true q = test-is p n f .0 (subst T (sym q) tt)
       go false q =
           let there = test-is p (suc n) f .1 (inr w) in
-          let more = size-less h (test p n) (test p (suc n)) keeps f (after-within h p g (suc n) f (inr w)) q there in
+          let more = size-less (p .head) (test p n) (test p (suc n)) keeps f (after-within p g (suc n) f (inr w)) q there in
           absurd (omega arith)
 
   -- each round that adds something adds to the size
-  grows : (n : ℕ) → ((j : ℕ) → j < n → Settled p (after p j) → ⊥) → n ≤ size h (test p n)
+  grows : (n : ℕ) → ((j : ℕ) → j < n → Settled p (after p j) → ⊥) → n ≤ size (p .head) (test p n)
   grows zero busy = omega arith
-  grows (suc n) busy = go (decLe (size h (test p (suc n))) (size h (test p n))) (grows n (λ j l. busy j (omega arith)))
+  grows (suc n) busy = go (decLe (size (p .head) (test p (suc n))) (size (p .head) (test p n))) (grows n (λ j l. busy j (omega arith)))
     where
-      go : Dec (size h (test p (suc n)) ≤ size h (test p n)) → n ≤ size h (test p n) → suc n ≤ size h (test p (suc n))
+      go : Dec (size (p .head) (test p (suc n)) ≤ size (p .head) (test p n)) → n ≤ size (p .head) (test p n) → suc n ≤ size (p .head) (test p (suc n))
       go (yes q) a = absurd (busy n (omega arith) (settled-of n q))
       go (no q) a = omega arith
 
-  pub count-bound : (n : ℕ) → Count p n → n ≤ mostRounds h
+  pub count-bound : (n : ℕ) → Count p n → n ≤ mostRounds (p .head)
   count-bound n c =
       let a = grows (c .earlier) (c .first) in
-      let b = size-le h (test p (c .earlier)) in
+      let b = size-le (p .head) (test p (c .earlier)) in
       let d = c .is in
       omega arith
 
   pub count-exists : (n : ℕ) × Count p n
-  count-exists = go (run p (mostRounds h) 0 []) (whole-run p (mostRounds h))
+  count-exists = go (run p (mostRounds (p .head)) 0 []) (whole-run p (mostRounds (p .head)))
     where
-      go : (r : Run) → RunIs p (mostRounds h) r → (n : ℕ) × Count p n
+      go : (r : Run) → RunIs p (mostRounds (p .head)) r → (n : ℕ) × Count p n
       go (settled n s) w = (n, w .0)
       go unfinished w =
-          let a = grows (mostRounds h) w in
-          let b = size-le h (test p (mostRounds h)) in
+          let a = grows (mostRounds (p .head)) w in
+          let b = size-le (p .head) (test p (mostRounds (p .head))) in
           absurd (omega arith)
 
 -- no plan takes more rounds than that of the most channels, binders and levels

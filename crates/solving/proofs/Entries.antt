@@ -13,10 +13,10 @@ use Rattle.sets.specs.inner.Compute.{withMember}
 use Rattle.sets.proofs.Members.{same-members}
 use Rattle.sets.proofs.SameRows.{empty-length, none-at, same-row}
 use Rattle.sets.proofs.Computed.{with-member}
+use Rattle.sets.proofs.Listed.{Mem}
 use Rattle.solving.specs.declared.Solution.{Solution}
 use Rattle.solving.specs.Solutions.{Fact, binderSet, inSet, outSet, membersIn, Sized}
 use Rattle.solving.specs.inner.Compute.{enter, solutionOf}
-use Rattle.solving.proofs.Lists.{Mem}
 
 -- a fact that has a place in the arrays
 abbrev pub Placed : Fact → Type 0

@@ -5,6 +5,7 @@ pub mod Leastness
 pub mod Ranges
 -- The code's table and walk.
 pub mod Tables
+pub mod OfferRows
 pub mod Steps
 pub mod Trees
 pub mod Walks

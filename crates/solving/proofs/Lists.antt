@@ -5,11 +5,8 @@ use mathlib.Core.Path.{_≡_, refl, subst, subst⁻¹}
 use mathlib.Core.List.{List, [], _∷_, _++_}
 use mathlib.Core.Logic.{_↔_, _⊎_, inl, inr, ⊎-elim}
 use lib.Dec.{T, eqb, eqb→eq, eqb-refl}
+use Rattle.sets.proofs.Listed.{Mem}
 use Rattle.solving.specs.inner.Compute.{each, when, ifSome}
-
-abbrev pub Mem : {A : Type 0} → A → List A → Type 0
-Mem a [] = ⊥
-Mem a (x ∷ xs) = (a ≡ x) ⊎ Mem a xs
 
 pub mem-append : {A : Type 0} (a : A) (xs ys : List A) → Mem a (xs ++ ys) ↔ (Mem a xs ⊎ Mem a ys)
 mem-append a [] ys = (inr, ⊎-elim absurd (λ z. z))

@@ -10,11 +10,14 @@ use Rattle.lines.specs.declared.Head.{Head}
 use Rattle.lines.specs.declared.Marker.{Marker}
 use Rattle.lines.specs.declared.Marker.the-variants.{Channel, Binder}
 use Rattle.lines.specs.declared.Node.{Node}
+use Rattle.lines.specs.declared.Offer.{Offer}
 use Rattle.lines.specs.Promise.{MarkerWithin}
-use Rattle.reading.specs.Promise.{EachWithin}
+use Rattle.reading.specs.Plan.{Plan}
+use Rattle.reading.specs.Promise.{EachWithin, OffersWithin, PlanWithin}
 use Rattle.reading.specs.Tree.{Tree, nil, silent, send, receive, sum, parallel, restriction, match, replication, bracket, listing}
 use Rattle.solving.specs.Solutions.{Fact, binderSet, inSet, outSet, Sets, SetOf, Level, InRange, LiesWithin}
-use Rattle.solving.specs.Rounds.{SendWants, ReceiveWants, BracketWants, Wants, after}
+use Rattle.solving.specs.Clauses.{IsOffered}
+use Rattle.solving.specs.Rounds.{SendWants, ReceiveWants, BracketWants, Wants, OfferWants, after}
 
 pub within-split : (h : Head) (xs ys : List Node) → EachWithin h (xs ++ ys) → EachWithin h xs × EachWithin h ys
 within-split h [] ys w = (tt, w)
@@ -64,7 +67,21 @@ module _ (h : Head) (s : Sets) (in-range : LiesWithin h s) where
   wants-within (match x y p) l g v f w = wants-within p l (g .1) v f (w .1)
   wants-within (bracket m p) l g v f w = ⊎-elim (wants-within p m (g .1) (inl (g .0)) f) (bracket-within m l f v) w
 
-pub after-within : (h : Head) (p : Tree) → EachWithin h (listing p) → (n : ℕ) → LiesWithin h (after p n)
-after-within h p g zero f e = absurd e
-after-within h p g (suc n) f e =
-    ⊎-elim (after-within h p g n f) (wants-within h (after p n) (after-within h p g n) p outermost g (inr refl) f) e
+-- what is offered is on a channel of the plan, and a handle of it
+pub offered-below : (h : Head) (least : ℕ) (offers : List Offer) → OffersWithin h least offers → (c o : ℕ) → IsOffered offers c o
+    → (c < h .channels) × (o < h .channels)
+offered-below h least [] g c o w = absurd w
+offered-below h least (offer ∷ offers) g c o w =
+    ⊎-elim (λ e. (subst⁻¹ (λ k. k < h .channels) (e .0) (g .0 .channel), g .0 .handles o (e .1))) (offered-below h _ offers (g .1) c o) w
+
+offered-within : (h : Head) (offers : List Offer) → OffersWithin h 0 offers → (f : Fact) → OfferWants offers f → InRange h f
+offered-within h offers g (binderSet b o) w = absurd w
+offered-within h offers g (inSet m c o) w = absurd w
+offered-within h offers g (outSet m c o) w = let r = offered-below h 0 offers g c o (w .1) in (inr (w .0), r .0, r .1)
+
+pub after-within : (p : Plan) → PlanWithin p → (n : ℕ) → LiesWithin (p .head) (after p n)
+after-within p g zero f e = absurd e
+after-within p g (suc n) f e =
+    let h = p .head in
+    let tree = wants-within h (after p n) (after-within p g n) (p .tree) outermost (g .nodes) (inr refl) f in
+    ⊎-elim (after-within p g n f) (⊎-elim tree (offered-within h (p .offers) (g .offers) f)) e

@@ -11,12 +11,11 @@ use Rattle.lines.specs.declared.Node.the-variants.{Nil}
 use Rattle.reading.specs.declared.Reading.{Reading}
 use Rattle.reading.specs.declared.Slot.{Slot}
 use Rattle.reading.specs.Plan.{Outcome, refused, read, Plan, padded, slot, readingOf}
-use Rattle.reading.specs.Promise.{EachWithin, PlanWithin, Kept}
+use Rattle.reading.specs.Promise.{PlanWithin, Kept}
 use Rattle.reading.specs.Tree.{listing}
 use Rattle.solving.specs.declared.Solved.{Solved}
 use Rattle.solving.specs.Solve.{Solves, refusedBy}
 use Rattle.solving.specs.inner.Walk.{nodeAt, Stands, Spells, Spelled, Settles}
-use Rattle.solving.proofs.Walks.{alone}
 
 -- nodes stand where each of them stands
 stands-each : (ns : List Slot) (i : ℕ) (xs : List Node)
@@ -49,15 +48,8 @@ tree-stands : (p : Plan) → Stands (readingOf (read p) .nodes) 0 (listing (p .t
 unfolding padded
 tree-stands p = listed (listing (p .tree)) _
 
-plan-spells : (p : Plan) → PlanWithin p → Spells (p .head) (readingOf (read p) .nodes) (p .tree)
-plan-spells p w = record {
-  fits = w .head;
-  planted = record {
-    stands = subst⁻¹ (Stands (readingOf (read p) .nodes) 0) (alone (p .tree)) (tree-stands p);
-    deep = (w .shallow, tt);
-    within = subst⁻¹ (EachWithin (p .head)) (alone (p .tree)) (w .nodes);
-  };
-}
+plan-spells : (p : Plan) → PlanWithin p → Spells (readingOf (read p) .nodes) (readingOf (read p) .offers) p
+plan-spells p w = record { within = w; stands = tree-stands p; offers = refl }
 
 -- ---- by what the text reads as
 
@@ -66,14 +58,14 @@ pub refusal-solves : (o : Outcome Plan) (q : Reading) (allowance : ℕ) (r : Sol
 refusal-solves (refused f) q allowance r e n a = a ∙ ap (λ (k : Reading). refusedBy (k .refusal)) e
 refusal-solves (read p) q allowance r e n a = absurd (n (ap (λ (k : Reading). k .refusal .number) e))
 
-pub reading-spelled : (o : Outcome Plan) (q : Reading) → Kept o → q ≡ readingOf o → q .refusal .number ≡ 0 → Spelled (q .head) (q .nodes)
+pub reading-spelled : (o : Outcome Plan) (q : Reading) → Kept o → q ≡ readingOf o → q .refusal .number ≡ 0 → Spelled (q .head) (q .nodes) (q .offers)
 reading-spelled (refused f) q k e z =
-    let n = ap (λ (u : Reading). u .refusal .number) e in let l = k .0 in absurd (omega arith)
-reading-spelled (read p) q k e z = subst⁻¹ (λ (u : Reading). Spelled (u .head) (u .nodes)) e (p .tree, plan-spells p k)
+    let n = ap (λ (u : Reading). u .refusal .number) e in let l = k .0 .0 in absurd (omega arith)
+reading-spelled (read p) q k e z = subst⁻¹ (λ (u : Reading). Spelled (u .head) (u .nodes) (u .offers)) e (p, refl, plan-spells p k)
 
 pub plan-solves : (o : Outcome Plan) (q : Reading) (allowance : ℕ) (r : Solved) → Kept o → q ≡ readingOf o → q .refusal .number ≡ 0
-    → Settles (q .head) (q .nodes) allowance r → Solves o allowance r
+    → Settles (q .head) (q .nodes) (q .offers) allowance r → Solves o allowance r
 plan-solves (refused f) q allowance r k e z s =
-    let n = ap (λ (u : Reading). u .refusal .number) e in let l = k .0 in absurd (omega arith)
+    let n = ap (λ (u : Reading). u .refusal .number) e in let l = k .0 .0 in absurd (omega arith)
 plan-solves (read p) q allowance r k e z s =
-    subst (λ (u : Reading). Settles (u .head) (u .nodes) allowance r) e s (p .tree) (plan-spells p k)
+    subst (λ (u : Reading). Settles (u .head) (u .nodes) (u .offers) allowance r) e s p refl (plan-spells p k)

@@ -13,19 +13,17 @@ use Rattle.sets.specs.Set.{Has}
 use Rattle.sets.specs.Rows.{SetRow, emptyRow, setAt, HasAt, Copied}
 use Rattle.sets.proofs.Members.{same-members}
 use Rattle.sets.proofs.SameRows.{none-at, same-row}
-use Rattle.lines.specs.declared.Head.{Head}
 use Rattle.reading.specs.declared.Slot.{Slot}
-use Rattle.reading.specs.Promise.{EachWithin}
-use Rattle.reading.specs.Plan.{noRefusal}
-use Rattle.reading.specs.Tree.{Tree, listing}
+use Rattle.reading.specs.Promise.{EachWithin, PlanWithin}
+use Rattle.reading.specs.Plan.{Plan, noRefusal}
 use Rattle.solving.specs.declared.Solved.{Solved}
 use Rattle.solving.specs.Solutions.{Fact, binderSet, inSet, outSet, membersIn}
 use Rattle.solving.specs.Rounds.{Wanted, Settled, after, Count}
 use Rattle.solving.specs.Least.{Least}
 use Rattle.solving.specs.Solve.{Answered}
 use Rattle.solving.specs.inner.Table.{insStart, outsStart, tableSize, insAt, outsAt, inTable, Adds, Unpacked}
-use Rattle.solving.specs.inner.Walk.{Stands, Spells, IsPlan, Ready}
-use Rattle.solving.proofs.Acceptance.{wants-grows}
+use Rattle.solving.specs.inner.Walk.{Stands, IsPlan, Ready}
+use Rattle.solving.proofs.Acceptance.{wanted-grows}
 use Rattle.solving.proofs.Leastness.{count-least, least-same}
 use Rattle.solving.proofs.Ranges.{after-within}
 use Rattle.solving.proofs.Walks.{alone}
@@ -35,21 +33,20 @@ use Rattle.solving.proofs.Walks.{alone}
 pub round-ready : (ns : List Slot) (old new : SetRow) → length old ≡ tableSize → length new ≡ tableSize → IsPlan ns
     → Ready mostDepth ns 0 outermost 1 old new
 round-ready ns old new zo zn w =
-    let s = w .1 .1 in
+    let p = w .1 in
+    let s = w .2 in
     record {
       few = omega arith;
-      head = w .0;
-      lent = record { fits = s .fits; leveled = inr refl; olds = zo; news = zn };
-      trees = w .1 .0 ∷ [];
+      head = p .head;
+      lent = record { fits = s .within .head; leveled = inr refl; olds = zo; news = zn };
+      trees = p .tree ∷ [];
       many = refl;
-      planted = s .planted;
+      planted = record {
+        stands = subst⁻¹ (Stands ns 0) (alone (p .tree)) (s .stands);
+        deep = (s .within .shallow, tt);
+        within = subst⁻¹ (EachWithin (p .head)) (alone (p .tree)) (s .within .nodes);
+      };
     }
-
-pub spelled-stands : {h : Head} {ns : List Slot} {p : Tree} → Spells h ns p → Stands ns 0 (listing p)
-spelled-stands {h} {ns} {p} s = subst (Stands ns 0) (alone p) (s .planted .stands)
-
-pub spelled-within : {h : Head} {ns : List Slot} {p : Tree} → Spells h ns p → EachWithin h (listing p)
-spelled-within {h} {ns} {p} s = subst (EachWithin h) (alone p) (s .planted .within)
 
 -- ---- tables that hold the same are one
 
@@ -125,19 +122,19 @@ unpacked t rb ri ro b i o lb li lo cb ci co = record {
 
 -- ---- the table after some rounds
 
-pub record Reached (p : Tree) (n : ℕ) (t : SetRow) : Type 0 where
+pub record Reached (p : Plan) (n : ℕ) (t : SetRow) : Type 0 where
   pub holds : (f : Fact) → after p n f ↔ inTable t f
   pub busy : (j : ℕ) → j < n → Settled p (after p j) → ⊥
 
-pub reached-none : (p : Tree) → Reached p 0 (emptyRow tableSize)
+pub reached-none : (p : Plan) → Reached p 0 (emptyRow tableSize)
 reached-none p = record { holds = λ f. (absurd, λ x. absurd (empty-table f x)); busy = λ j l s. omega arith }
 
-module _ (p : Tree) (n : ℕ) (t u : SetRow) (r : Reached p n t) (a : Adds t u (Wanted p (inTable t))) where
+module _ (p : Plan) (n : ℕ) (t u : SetRow) (r : Reached p n t) (a : Adds t u (Wanted p (inTable t))) where
   -- what is wanted of the sets is wanted of the table
   wanted-same : (f : Fact) → Wanted p (after p n) f ↔ Wanted p (inTable t) f
   wanted-same f = (
-    wants-grows (after p n) (inTable t) (λ g. r .holds g .0) p outermost f,
-    wants-grows (inTable t) (after p n) (λ g. r .holds g .1) p outermost f,
+    wanted-grows (after p n) (inTable t) (λ g. r .holds g .0) p f,
+    wanted-grows (inTable t) (after p n) (λ g. r .holds g .1) p f,
   )
 
   pub settled-if : u ≡ t → Settled p (after p n)
@@ -170,16 +167,16 @@ module _ (p : Tree) (n : ℕ) (t u : SetRow) (r : Reached p n t) (a : Adds t u (
 
 -- ---- the answers
 
-pub answered-by : (h : Head) (p : Tree) (allowance n : ℕ) (t : SetRow) (r : Solved) → EachWithin h (listing p) → Reached p n t
-    → Settled p (after p n) → n < allowance → r .refusal ≡ noRefusal → r .head ≡ h → r .count ≡ n + 1 → Unpacked t (r .solution)
-    → Answered h p allowance r
-answered-by h p allowance n t r w e s l refusal head count u = record {
+pub answered-by : (p : Plan) (allowance n : ℕ) (t : SetRow) (r : Solved) → PlanWithin p → Reached p n t
+    → Settled p (after p n) → n < allowance → r .refusal ≡ noRefusal → r .head ≡ p .head → r .count ≡ n + 1 → Unpacked t (r .solution)
+    → Answered p allowance r
+answered-by p allowance n t r w e s l refusal head count u = record {
   refusal = refusal;
   head = head;
   count = counted;
   allowed = omega arith;
   least = record { acceptable = least .acceptable; least = λ t. least .least (membersIn t) };
-  within = λ f m. after-within h p w n f (members f .1 m);
+  within = λ f m. after-within p w n f (members f .1 m);
   sized = u .sized;
 }
   where

@@ -3,27 +3,30 @@
 use Prim.Native.Nat.{ℕ, _+_, _*_, _<_}
 use mathlib.Core.Bool.{Bool, true, false}
 use mathlib.Core.Path.{_≡_, refl, subst, subst⁻¹}
+use mathlib.Core.List.{List}
 use mathlib.Core.Logic.{_↔_, _⊎_, inl, inr, ⊎-elim, Iff·trans}
 use native.Mathlib.Omega.{arith}
 use lib.Dec.{T, eqb}
 use lib.ListN.{length}
-use Rattle.limits.specs.Limits.{mostChannels, mostBinders, levels}
+use Rattle.limits.specs.Limits.{mostChannels, mostBinders, outermost, levels}
 use Rattle.sets.specs.Set.{Has, Members, Narrow, Empty, Meet, Decides}
-use Rattle.sets.specs.Rows.{SetRow, setAt, Joins, Only, Over, From, Together}
+use Rattle.sets.specs.Rows.{SetRow, setAt, HasAt, Joins, Only, Over, From, Together}
 use Rattle.sets.proofs.Decide.{says-no, says-equal}
 use Rattle.sets.proofs.Minimum.{members-some}
 use Rattle.lines.specs.declared.Head.{Head}
 use Rattle.lines.specs.declared.Marker.{Marker}
 use Rattle.lines.specs.declared.Marker.the-variants.{Channel, Binder}
 use Rattle.lines.specs.declared.Node.{Node}
+use Rattle.lines.specs.declared.Offer.{Offer}
 use Rattle.lines.specs.declared.Node.the-variants.{Receive, Bracket}
 use Rattle.reading.specs.Tree.{branchCount}
 use Rattle.lines.specs.Promise.{HeadWithin, MarkerWithin}
 use Rattle.solving.specs.Solutions.{Fact, binderSet, inSet, outSet, SetOf, Level}
-use Rattle.solving.specs.Clauses.{Some, Heard, Meets}
-use Rattle.solving.specs.Rounds.{SendWants, ReceiveWants, BracketWants}
+use Rattle.solving.specs.Clauses.{Some, Heard, Meets, IsOffered}
+use Rattle.solving.specs.Rounds.{SendWants, ReceiveWants, BracketWants, OfferWants}
 use Rattle.solving.specs.inner.Table.{insStart, outsStart, insAt, outsAt, inTable, tableSize, MarkerFits, SentOn, Sounding, Adds}
 use Rattle.solving.specs.inner.Walk.{Condition, Own, levelIn, Able, Asked, Stepped}
+use Rattle.solving.proofs.OfferRows.{RowOf}
 use Rattle.solving.proofs.Tables.{adds-none, adds-same, At, binder-kept, row-kept, row-joined, binder-joined, beside-binder, merged-at}
 
 -- ---- numbers that fit the table
@@ -223,3 +226,28 @@ module _ (every : ℕ) (all : Members every (λ c. c < mostChannels)) where
           let e = merged outsStart l m old i r level inner jo j c o in
           let k = row-kept mostChannels insStart l (Has every) (From old (insAt m)) every-narrow ji levels outsStart level (inr (omega arith)) j c o in
           ((λ h. ⊎-elim (λ z. inl (k .0 z)) inr (e .0 h)), ⊎-elim (λ h. e .1 (inl (k .1 h))) (λ w. e .1 (inr w)))
+
+  -- ---- the offers
+
+  pub offers-add : (row t r : SetRow) (offers : List Offer) (base : ℕ) → RowOf offers row → base ≡ outsAt outermost
+      → Joins t r (Over base (Has every) (From row 0)) → Adds t r (OfferWants offers)
+  offers-add row t r offers base is at joined = record { adds = go }
+    where
+      js : Joins t r (Over (outsAt outermost) (Has every) (From row 0))
+      js = merged-at row (Has every) at refl joined
+
+      held : (c o : ℕ) → From row 0 c o ↔ IsOffered offers c o
+      held c o =
+          let here : 0 + c ≡ c = omega arith in
+          ((λ h. is .holds c o .0 (subst (λ k. HasAt row k o) here h)), λ w. subst⁻¹ (λ k. HasAt row k o) here (is .holds c o .1 w))
+
+      go : (f : Fact) → inTable r f ↔ (inTable t f ⊎ OfferWants offers f)
+      go (binderSet d o) =
+          no-more (binder-kept mostChannels outsStart outermost (Has every) (From row 0) every-narrow js mostBinders (omega arith) d o)
+      go (inSet m c o) = no-more
+          (row-kept mostChannels outsStart outermost (Has every) (From row 0) every-narrow js levels insStart (omega arith) (inl (omega arith)) m c o)
+      go (outSet m c o) =
+          let e = row-joined mostChannels outsStart outermost (Has every) (From row 0) every-narrow js levels (omega arith) m c o in (
+            (λ h. ⊎-elim inl (λ w. inr (w .0, held c o .0 (w .2))) (e .0 h)),
+            ⊎-elim (λ h. e .1 (inl h)) (λ w. e .1 (inr (w .0, all .has c .1 (is .short c o (w .1)), held c o .1 (w .1)))),
+          )

@@ -6,14 +6,20 @@ use mathlib.Core.List.{List, [], _∷_, _++_}
 use mathlib.Core.Logic.{_↔_, _⊎_, inl, inr, ⊎-elim, Iff·trans}
 use native.Mathlib.Omega.{arith}
 use lib.Dec.{eqb}
+use Rattle.limits.specs.Limits.{outermost}
+use Rattle.sets.specs.Set.{Has}
+use Rattle.sets.specs.inner.Compute.{listOf}
+use Rattle.sets.proofs.Listed.{Mem, listed-members}
 use Rattle.lines.specs.declared.Marker.{Marker}
 use Rattle.lines.specs.declared.Marker.the-variants.{Channel, Binder}
+use Rattle.lines.specs.declared.Offer.{Offer}
+use Rattle.reading.specs.Plan.{Plan}
 use Rattle.reading.specs.Tree.{Tree, nil, silent, send, receive, sum, parallel, restriction, match, replication, bracket}
 use Rattle.solving.specs.Solutions.{Fact, binderSet, inSet, outSet, Sets, SetOf}
-use Rattle.solving.specs.Clauses.{Some, Heard, Meets}
-use Rattle.solving.specs.Rounds.{SendWants, ReceiveWants, BracketWants, Wants}
-use Rattle.solving.specs.inner.Compute.{each, when, ifSome, ofBinder, ofIn, ofOut, setIn, insIn, outsIn, alike, meetsIn, raised, sendWanted, receiveWanted, wanted}
-use Rattle.solving.proofs.Lists.{Mem, mem-append, mem-each, mem-when, mem-if, mem-one, mem-pairs}
+use Rattle.solving.specs.Clauses.{Some, Heard, Meets, IsOffered}
+use Rattle.solving.specs.Rounds.{SendWants, ReceiveWants, BracketWants, Wants, OfferWants, Wanted}
+use Rattle.solving.specs.inner.Compute.{each, when, ifSome, ofBinder, ofIn, ofOut, setIn, insIn, outsIn, alike, meetsIn, raised, sendWanted, receiveWanted, wanted, offerWanted, roundWanted}
+use Rattle.solving.proofs.Lists.{mem-append, mem-each, mem-when, mem-if, mem-one, mem-pairs}
 
 -- a list of facts as a solution
 abbrev pub listed : List Fact → Sets
@@ -56,6 +62,43 @@ of-out c o (outSet m d u) =
     )
 of-out c o (binderSet b u) = (absurd, λ w. let e : binderSet b u ≡ outSet (w .0) c o = w .1 in other (cc))
 of-out c o (inSet m d u) = (absurd, λ w. let e : inSet m d u ≡ outSet (w .0) c o = w .1 in other (cc))
+
+-- ---- the offers
+
+-- one of them offers it
+offered-by : (offers : List Offer) (c o : ℕ) → IsOffered offers c o ↔ ((offer : Offer) × Mem offer offers × (c ≡ offer .channel) × Has (offer .set) o)
+offered-by [] c o = (absurd, λ w. absurd (w .1))
+offered-by (offer ∷ offers) c o =
+    let rest = offered-by offers c o in (
+      ⊎-elim (λ w. (offer, inl refl, w .0, w .1)) (λ w. let v = rest .0 w in (v .0, inr (v .1), v .2, v .3)),
+      (λ w. ⊎-elim
+          (λ e. inl (subst (λ k. (c ≡ k .channel) × Has (k .set) o) e (w .2, w .3)))
+          (λ m. inr (rest .1 (w .0, m, w .2, w .3))) (w .1)),
+    )
+
+offers-are : (offers : List Offer) (f : Fact) → Mem f (offerWanted offers) ↔ OfferWants offers f
+offers-are offers f = Iff·trans (mem-each f offers facts) ((λ w. there (w .0) (w .1) (w .2)), back f)
+  where
+    facts : Offer → List Fact
+    facts offer = each (listOf (offer .set)) (λ o. outSet outermost (offer .channel) o ∷ [])
+
+    there : (offer : Offer) → Mem offer offers → Mem f (facts offer) → OfferWants offers f
+    there offer h m =
+        let w = mem-each f (listOf (offer .set)) (λ o. outSet outermost (offer .channel) o ∷ []) .0 m in
+        let e = mem-one f (outSet outermost (offer .channel) (w .0)) .0 (w .2) in
+        let has = listed-members (offer .set) (w .0) .0 (w .1) in
+        subst⁻¹ (OfferWants offers) e (refl, offered-by offers (offer .channel) (w .0) .1 (offer, h, refl, has))
+
+    back : (f : Fact) → OfferWants offers f → (offer : Offer) × Mem offer offers × Mem f (facts offer)
+    back (binderSet b o) w = absurd w
+    back (inSet m c o) w = absurd w
+    back (outSet m c o) w =
+        let v = offered-by offers c o .0 (w .1) in
+        let p = w .0 in
+        let q = v .2 in
+        let same : outSet m c o ≡ outSet outermost (v .0 .channel) o = cc in
+        let listed = listed-members (v .0 .set) o .1 (v .3) in
+        (v .0, v .1, mem-each (outSet m c o) (listOf (v .0 .set)) (λ u. outSet outermost (v .0 .channel) u ∷ []) .1 (o, listed, inl same))
 
 -- ---- conditions
 
@@ -248,3 +291,7 @@ module _ (s : List Fact) where
       let i = mem-if f (meetsIn s x y) (wanted p l s) in
       (λ m. let u = i .0 m in (meets-is x y .0 (u .0), h .0 (u .1)), λ w. i .1 (meets-is x y .1 (w .0), h .1 (w .1)))
   wanted-is (bracket m p) l f = either f (wanted p m s) (each s (raised m l)) (wanted-is p m f) (raised-is m l f)
+
+  pub round-wanted : (p : Plan) (f : Fact) → Mem f (roundWanted p s) ↔ Wanted p (listed s) f
+  round-wanted p f =
+      either f (wanted (p .tree) outermost s) (offerWanted (p .offers)) (wanted-is (p .tree) outermost f) (offers-are (p .offers) f)

@@ -1,10 +1,15 @@
--- Document 01, 'Acceptable solutions', and document 000's Table 2: when a node holds, one clause for each kind of node.
+-- Document 01, 'Acceptable solutions', document 000's Table 2 and document 02's order 1: when a node holds, one clause for each kind of node;
+-- what the outside offers; and when a solution is acceptable.
 -- Assumes nothing.
 use Prim.Native.Nat.{ℕ}
 use mathlib.Core.Path.{_≡_}
 use mathlib.Core.Logic.{_⊎_}
+use mathlib.Core.List.{List, [], _∷_}
 use Rattle.limits.specs.Limits.{outermost}
+use Rattle.sets.specs.Set.{Has}
 use Rattle.lines.specs.declared.Marker.{Marker}
+use Rattle.lines.specs.declared.Offer.{Offer}
+use Rattle.reading.specs.Plan.{Plan}
 use Rattle.reading.specs.Tree.{Tree, nil, silent, send, receive, sum, parallel, restriction, match, replication, bracket}
 use Rattle.solving.specs.Solutions.{binderSet, inSet, outSet, Sets, SetOf}
 
@@ -42,6 +47,12 @@ Holds (bracket m p) l s =
     × ((c o : ℕ) → s (inSet m c o) → s (inSet l c o))
     × ((c o : ℕ) → s (outSet m c o) → s (outSet l c o))
 
--- a solution is acceptable if the root holds, with # at the outside
-abbrev pub Acceptable : Tree → Sets → Type 0
-Acceptable p s = Holds p outermost s
+-- o is offered on channel c
+abbrev pub IsOffered : List Offer → ℕ → ℕ → Type 0
+IsOffered [] c o = ⊥
+IsOffered (offer ∷ offers) c o = ((c ≡ offer .channel) × Has (offer .set) o) ⊎ IsOffered offers c o
+
+-- a solution is acceptable if the root holds, with # at the outside, and each offer is within out(#, channel)
+pub record Acceptable (plan : Plan) (s : Sets) : Type 0 where
+  pub root : Holds (plan .tree) outermost s
+  pub offers : (c o : ℕ) → IsOffered (plan .offers) c o → s (outSet outermost c o)

@@ -16,13 +16,13 @@ pub record LeastAnswer (plan : Plan) (n : ℕ) (r : Solved) : Type 1 where
   pub refusal : r .refusal ≡ noRefusal
   pub head : r .head ≡ plan .head
   pub count : r .count ≡ n
-  pub least : Least (plan .tree) (membersIn (r .solution))
+  pub least : Least plan (membersIn (r .solution))
   pub within : LiesWithin (plan .head) (membersIn (r .solution))
 
 -- a plan
 pub record PlanDemand (plan : Plan) (allowance : ℕ) (r : Solved) : Type 1 where
   pub count : ℕ
-  pub counts : Count (plan .tree) count
+  pub counts : Count plan count
   pub bound : count ≤ mostRounds (plan .head)
   pub ceiling : count ≤ roundCeiling
   pub answered : count ≤ allowance → LeastAnswer plan count r

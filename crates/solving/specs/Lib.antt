@@ -1,4 +1,5 @@
--- The least acceptable solution and the count of rounds: document 01's 'Acceptable solutions' and 'Rounds', in their order.
+-- The least acceptable solution and the count of rounds: document 01's 'Acceptable solutions' and 'Rounds', in their order, and document
+-- 02's order 1.
 pub mod Solutions
 pub mod Clauses
 pub mod Rounds

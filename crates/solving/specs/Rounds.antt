@@ -1,14 +1,17 @@
--- Document 01, 'Rounds': what a round adds, the sets after some rounds, and the count.
+-- Document 01, 'Rounds', and document 02's order 1: what a round adds, the sets after some rounds, and the count.
 -- Assumes nothing.
 use Prim.Native.Nat.{ℕ, zero, suc, _+_, _*_, _<_}
 use mathlib.Core.Path.{_≡_}
 use mathlib.Core.Logic.{_⊎_}
+use mathlib.Core.List.{List}
 use Rattle.limits.specs.Limits.{outermost, mostChannels, mostBinders, highestLevel}
 use Rattle.lines.specs.declared.Head.{Head}
 use Rattle.lines.specs.declared.Marker.{Marker}
+use Rattle.lines.specs.declared.Offer.{Offer}
+use Rattle.reading.specs.Plan.{Plan}
 use Rattle.reading.specs.Tree.{Tree, nil, silent, send, receive, sum, parallel, restriction, match, replication, bracket}
 use Rattle.solving.specs.Solutions.{Fact, binderSet, inSet, outSet, Sets, SetOf}
-use Rattle.solving.specs.Clauses.{Some, Heard, Meets}
+use Rattle.solving.specs.Clauses.{Some, Heard, Meets, IsOffered}
 
 -- what a send's clause wants included, where its condition holds
 abbrev pub SendWants : Sets → Marker → Marker → ℕ → Sets
@@ -41,25 +44,31 @@ Wants (receive x y b p) l s f = Heard s x × (Wants p l s f ⊎ ReceiveWants s x
 Wants (match x y p) l s f = Meets s x y × Wants p l s f
 Wants (bracket m p) l s f = Wants p m s f ⊎ BracketWants s m l f
 
--- what a round wants, from the root
-abbrev pub Wanted : Tree → Sets → Sets
-Wanted p s = Wants p outermost s
+-- what the offers want included, whatever the sets are
+abbrev pub OfferWants : List Offer → Sets
+OfferWants offers (binderSet b o) = ⊥
+OfferWants offers (inSet m c o) = ⊥
+OfferWants offers (outSet m c o) = (m ≡ outermost) × IsOffered offers c o
+
+-- what a round wants: what the walk from the root does, and the offers too
+abbrev pub Wanted : Plan → Sets → Sets
+Wanted p s f = Wants (p .tree) outermost s f ⊎ OfferWants (p .offers) f
 
 -- everything that a round wants is there: it adds nothing
-abbrev pub Settled : Tree → Sets → Type 0
+abbrev pub Settled : Plan → Sets → Type 0
 Settled p s = (f : Fact) → Wanted p s f → s f
 
 -- a round reads every set as it was when the round began, and adds what is wanted all at once
-abbrev pub round : Tree → Sets → Sets
+abbrev pub round : Plan → Sets → Sets
 round p s f = s f ⊎ Wanted p s f
 
 -- the sets after n rounds: all start empty
-abbrev pub after : Tree → ℕ → Sets
+abbrev pub after : Plan → ℕ → Sets
 after p zero f = ⊥
 after p (suc n) f = round p (after p n) f
 
 -- the number of rounds up to and including the first that adds nothing
-pub record Count (p : Tree) (n : ℕ) : Type 0 where
+pub record Count (p : Plan) (n : ℕ) : Type 0 where
   pub earlier : ℕ
   pub is : n ≡ suc earlier
   pub settled : Settled p (after p earlier)
@@ -74,5 +83,5 @@ abbrev pub roundCeiling : ℕ
 roundCeiling = mostRounds (record { channels = mostChannels; binders = mostBinders; top = highestLevel; names = 0 })
 
 -- the count exceeds the allowance
-abbrev pub Exceeds : Tree → ℕ → Type 0
+abbrev pub Exceeds : Plan → ℕ → Type 0
 Exceeds p allowance = (n : ℕ) → Count p n → allowance < n

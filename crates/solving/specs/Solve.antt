@@ -5,10 +5,8 @@ use mathlib.Core.Path.{_≡_}
 use mathlib.Core.Logic.{_⊎_}
 use Rattle.limits.specs.Limits.{mostBinders, levelSets}
 use Rattle.sets.specs.Rows.{emptyRow}
-use Rattle.lines.specs.declared.Head.{Head}
 use Rattle.reading.specs.declared.Refusal.{Refusal}
 use Rattle.reading.specs.Plan.{Outcome, refused, read, Plan, noHead, noRefusal}
-use Rattle.reading.specs.Tree.{Tree}
 use Rattle.solving.specs.declared.Solution.{Solution}
 use Rattle.solving.specs.declared.Solved.{Solved}
 use Rattle.solving.specs.Solutions.{membersIn, LiesWithin, Sized}
@@ -27,21 +25,21 @@ abbrev pub overAllowance : Refusal
 overAllowance = record { number = 14; line = 0 }
 
 -- the count is within the allowance: the count, and the least acceptable solution
-pub record Answered (h : Head) (p : Tree) (allowance : ℕ) (r : Solved) : Type 0 where
+pub record Answered (plan : Plan) (allowance : ℕ) (r : Solved) : Type 0 where
   pub refusal : r .refusal ≡ noRefusal
-  pub head : r .head ≡ h
-  pub count : Count p (r .count)
+  pub head : r .head ≡ plan .head
+  pub count : Count plan (r .count)
   pub allowed : r .count ≤ allowance
-  pub least : LeastArrays p (r .solution)
-  pub within : LiesWithin h (membersIn (r .solution))
+  pub least : LeastArrays plan (r .solution)
+  pub within : LiesWithin (plan .head) (membersIn (r .solution))
   pub sized : Sized (r .solution)
 
 -- it exceeds the allowance: refusal 14
-pub record RoundsSpent (p : Tree) (allowance : ℕ) (r : Solved) : Type 0 where
-  pub exceeds : Exceeds p allowance
+pub record RoundsSpent (plan : Plan) (allowance : ℕ) (r : Solved) : Type 0 where
+  pub exceeds : Exceeds plan allowance
   pub is : r ≡ refusedBy overAllowance
 
--- what is answered, by what the text reads as: refusals 1 to 13 are reading's
+-- what is answered, by what the text reads as
 abbrev pub Solves : Outcome Plan → ℕ → Solved → Type 0
 Solves (refused f) allowance r = r ≡ refusedBy f
-Solves (read plan) allowance r = Answered (plan .head) (plan .tree) allowance r ⊎ RoundsSpent (plan .tree) allowance r
+Solves (read plan) allowance r = Answered plan allowance r ⊎ RoundsSpent plan allowance r

@@ -45,5 +45,6 @@ pub fn solve(text: &[u8], allowance: u16) -> Solved
     }
     let head = reading.head;
     let nodes = reading.nodes;
-    settle(head, nodes, allowance)
+    let offers = reading.offers;
+    settle(head, nodes, offers, allowance)
 }

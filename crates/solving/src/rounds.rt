@@ -6,9 +6,11 @@ use crate::Solution;
 use crate::Solved;
 use crate::table::Table;
 use crate::table::empty;
+use crate::table::outs_at;
 use crate::table::solution_of;
 use crate::walk::walk_node;
 use limits::BINDER_SETS;
+use limits::CHANNEL_SETS;
 use limits::LEVEL_SETS;
 use limits::MOST_DEPTH;
 use limits::MOST_NODES;
@@ -16,15 +18,18 @@ use limits::OUTERMOST;
 use lines::Head;
 use reading::Refusal;
 use reading::Slot;
+use sets::Set;
 
-// The table after one round more: everything that the walk from the root wants is added, and every set is read as it was.
-fn round(nodes: [Slot; MOST_NODES], table: Table) -> Table
+// The table after one round more: everything that the walk from the root wants is added, and the offers too; every set is read as it was.
+fn round(nodes: [Slot; MOST_NODES], offers: [Set; CHANNEL_SETS], table: Table) -> Table
     requires { ⌜ IsPlan nodes ⌝ }
-    ensures { λ r. ⌜ Rounded nodes table r ⌝ }
+    ensures { λ r. ⌜ Rounded nodes offers table r ⌝ }
 {
     let old = table;
     let mut new = table;
     walk_node(MOST_DEPTH, nodes, 0, OUTERMOST, true, &old, &mut new);
+    let every = sets::every();
+    sets::rows::merge(&mut new, outs_at(OUTERMOST), &offers, 0, every);
     new
 }
 
@@ -50,16 +55,21 @@ pub(crate) fn refused(refusal: Refusal) -> Solved
     }
 }
 
-// Solves the plan with this head and these nodes: the count and the least acceptable solution, or refusal 14 where the
-// allowance is too small.
-pub(crate) fn settle(head: Head, nodes: [Slot; MOST_NODES], allowance: u16) -> Solved
-    requires { ⌜ Spelled head nodes ⌝ }
-    ensures { λ r. ⌜ Settles head nodes allowance r ⌝ }
+// Solves the plan with this head, these nodes and these offers: the count and the least acceptable solution, or refusal 14
+// where the allowance is too small.
+pub(crate) fn settle(
+    head: Head,
+    nodes: [Slot; MOST_NODES],
+    offers: [Set; CHANNEL_SETS],
+    allowance: u16,
+) -> Solved
+    requires { ⌜ Spelled head nodes offers ⌝ }
+    ensures { λ r. ⌜ Settles head nodes offers allowance r ⌝ }
 {
     let mut table = empty();
     let mut count: u16 = 0;
     while count < allowance {
-        let next = round(nodes, table);
+        let next = round(nodes, offers, table);
         count += 1;
         if sets::rows::same(&next, &table) {
             return Solved {

@@ -5,7 +5,7 @@ use borrow.Author.Needs.{needs}
 use borrow.Author.Tests.{not-true, not-false}
 use Rattle.reading.specs.Plan.{readingOf, refused}
 use Rattle.reading.specs.inner.Working.{StandsIn}
-use Rattle.reading.proofs.Whole.{after-names, names-stand, after-tree, after-more, after-all}
+use Rattle.reading.proofs.Whole.{after-names, names-stand, after-offers, offers-stand, after-tree, after-more, after-all}
 use Rattle.reading.proofs.after_head.Statement.{statement}
 use Rattle.reading.proofs.after_head.Tie as tie
 
@@ -37,68 +37,110 @@ returns c =
     let law = after-names s h cursor (begun .pre .0) _ _ fresh (named .read-names .ensures) (not-true _ (c .before .if1 .taken)) in
     c .refused .ensures ∙ ap readingOf law
 
-fresh-state-requires : tie.Need-fresh-state-requires
-fresh-state-requires c κs = search needs
+fresh-offers-requires : tie.Need-fresh-offers-requires
+fresh-offers-requires c κs = search needs
 
-read-node-requires : tie.Need-read-node-requires
-read-node-requires c κs =
-    let named = c .before .before .before .before in
+read-offers-requires : tie.Need-read-offers-requires
+read-offers-requires c κs =
+    let named = c .before .before .before in
     let begun = named .before .before .before .before in
     let s = begun .args .text .now in
     let h = begun .args .head in
     let cursor = begun .args .cursor in
     let fresh = named .before .fresh-names .ensures in
-    let good = not-false _ (c .before .before .if1 .left) in
-    subst (StandsIn s) (sym (c .fresh-state .ensures .there)) (names-stand s h cursor (begun .pre .0) _ _ fresh (named .read-names .ensures) good)
+    let good = not-false _ (c .before .if1 .left) in
+    let stands = names-stand s h cursor (begun .pre .0) _ _ fresh (named .read-names .ensures) good in
+    let empty = c .fresh-offers .ensures in
+    (subst (StandsIn s) (sym (empty .there)) stands, begun .pre .0, empty .good)
 
 refused-requires-2 : tie.Need-refused-requires-2
 refused-requires-2 c κs = search needs
 
 returns-2 : tie.Need-returns-2
 returns-2 c =
-    let grown = c .before .before .before in
-    let named = grown .before .before .before .before .before in
+    let laid = c .before .before .before in
+    let named = laid .before .before .before .before in
     let begun = named .before .before .before .before in
-    let good = not-false _ (grown .before .before .before .if1 .left) in
     let fresh = named .before .fresh-names .ensures in
-    let law = after-tree (begun .args .text .now) (begun .args .head) (begun .args .cursor) (begun .pre .0) _ _ fresh (named .read-names .ensures) good
-    _ _ (grown .before .fresh-state .ensures) (grown .read-node .ensures) (not-true _ (c .before .if2 .taken)) in
+    let good = not-false _ (laid .before .before .if1 .left) in
+    let law = after-offers (begun .args .text .now) (begun .args .head) (begun .args .cursor) (begun .pre .0) _ _ fresh (named .read-names .ensures) good
+    _ _ (laid .before .fresh-offers .ensures) (laid .read-offers .ensures) (not-true _ (c .before .if2 .taken)) in
     c .refused2 .ensures ∙ ap readingOf law
 
-refuse-requires : tie.Need-refuse-requires
-refuse-requires c κs = search needs
+fresh-state-requires : tie.Need-fresh-state-requires
+fresh-state-requires c κs = search needs
+
+read-node-requires : tie.Need-read-node-requires
+read-node-requires c κs =
+    let laid = c .before .before .before .before in
+    let named = laid .before .before .before .before in
+    let begun = named .before .before .before .before in
+    let s = begun .args .text .now in
+    let fresh = named .before .fresh-names .ensures in
+    let good = not-false _ (laid .before .before .if1 .left) in
+    let stands = offers-stand s (begun .args .head) (begun .args .cursor) (begun .pre .0) _ _ fresh (named .read-names .ensures) good
+    _ _ (laid .before .fresh-offers .ensures) (laid .read-offers .ensures) (not-false _ (c .before .before .if2 .left)) in
+    subst (StandsIn s) (sym (c .fresh-state .ensures .there)) stands
 
 refused-requires-3 : tie.Need-refused-requires-3
 refused-requires-3 c κs = search needs
 
 returns-3 : tie.Need-returns-3
 returns-3 c =
-    let grown = c .before .before .before .before .before .before .before in
-    let named = grown .before .before .before .before .before in
+    let grown = c .before .before .before in
+    let laid = grown .before .before .before .before .before in
+    let named = laid .before .before .before .before in
     let begun = named .before .before .before .before in
-    let good = not-false _ (grown .before .before .before .if1 .left) in
     let fresh = named .before .fresh-names .ensures in
-    let whole = not-false _ (c .before .before .before .before .before .if2 .left) in
+    let good = not-false _ (laid .before .before .if1 .left) in
+    let offered = not-false _ (grown .before .before .before .if2 .left) in
+    let law = after-tree (begun .args .text .now) (begun .args .head) (begun .args .cursor) (begun .pre .0) _ _ fresh (named .read-names .ensures) good
+    _ _ (laid .before .fresh-offers .ensures) (laid .read-offers .ensures) offered
+    _ _ (grown .before .fresh-state .ensures) (grown .read-node .ensures) (not-true _ (c .before .if3 .taken)) in
+    c .refused3 .ensures ∙ ap readingOf law
+
+refuse-requires : tie.Need-refuse-requires
+refuse-requires c κs = search needs
+
+refused-requires-4 : tie.Need-refused-requires-4
+refused-requires-4 c κs = search needs
+
+returns-4 : tie.Need-returns-4
+returns-4 c =
+    let grown = c .before .before .before .before .before .before .before in
+    let laid = grown .before .before .before .before .before in
+    let named = laid .before .before .before .before in
+    let begun = named .before .before .before .before in
+    let fresh = named .before .fresh-names .ensures in
+    let good = not-false _ (laid .before .before .if1 .left) in
+    let offered = not-false _ (grown .before .before .before .if2 .left) in
+    let whole = not-false _ (c .before .before .before .before .before .if3 .left) in
     let law = after-more (begun .args .text .now) (begun .args .head) (begun .args .cursor) (begun .pre .0) _ _ fresh (named .read-names .ensures) good
-    _ _ (grown .before .fresh-state .ensures) (grown .read-node .ensures) whole (c .before .before .if3 .taken) in
-    c .refused3 .ensures ∙ ap readingOf (ap refused (c .before .refuse .ensures) ∙ law)
+    _ _ (laid .before .fresh-offers .ensures) (laid .read-offers .ensures) offered
+    _ _ (grown .before .fresh-state .ensures) (grown .read-node .ensures) whole (c .before .before .if4 .taken) in
+    c .refused4 .ensures ∙ ap readingOf (ap refused (c .before .refuse .ensures) ∙ law)
 
 no-refusal-requires : tie.Need-no-refusal-requires
 no-refusal-requires c κs = search needs
 
-returns-4 : tie.Need-returns-4
-returns-4 c =
-    let grown = c .before .before .before .before .before .before .before .before in
-    let named = grown .before .before .before .before .before in
+returns-5 : tie.Need-returns-5
+returns-5 c =
+    let ended = c .before .before .before .before in
+    let grown = ended .before .before .before .before .before in
+    let laid = grown .before .before .before .before .before in
+    let named = laid .before .before .before .before in
     let begun = named .before .before .before .before in
-    let good = not-false _ (grown .before .before .before .if1 .left) in
     let fresh = named .before .fresh-names .ensures in
-    let whole = not-false _ (c .before .before .before .before .before .before .if2 .left) in
+    let good = not-false _ (laid .before .before .if1 .left) in
+    let offered = not-false _ (grown .before .before .before .if2 .left) in
+    let whole = not-false _ (ended .before .before .before .if3 .left) in
     let names = named .read-names .result .names in
+    let offers = laid .read-offers .result .row in
     let state = grown .read-node .result in
     after-all (begun .args .text .now) (begun .args .head) (begun .args .cursor) (begun .pre .0) _ _ fresh (named .read-names .ensures) good
-    _ _ (grown .before .fresh-state .ensures) (grown .read-node .ensures) whole _ (c .before .before .before .if3 .left)
-    (λ i. record { refusal = c .no-refusal .ensures i; head = begun .args .head; names = names; count = state .count; nodes = state .nodes })
+    _ _ (laid .before .fresh-offers .ensures) (laid .read-offers .ensures) offered
+    _ _ (grown .before .fresh-state .ensures) (grown .read-node .ensures) whole _ (ended .if4 .left)
+    (λ i. record { refusal = c .no-refusal .ensures i; head = begun .args .head; names = names; offers = offers; count = state .count; nodes = state .nodes })
 
 pub after-head-spec : {M : Type 1} → statement M
 after-head-spec =
@@ -109,12 +151,16 @@ after-head-spec =
     read-names-requires
     refused-requires
     returns
-    fresh-state-requires
-    read-node-requires
+    fresh-offers-requires
+    read-offers-requires
     refused-requires-2
     returns-2
-    refuse-requires
+    fresh-state-requires
+    read-node-requires
     refused-requires-3
     returns-3
+    refuse-requires
+    refused-requires-4
+    returns-4
     no-refusal-requires
-    returns-4)
+    returns-5)

@@ -1,4 +1,4 @@
--- What the code holds while it reads, in the terms of the definitions: where it stands, the free names and the nodes read so far.
+-- What the code holds while it reads, in the terms of the definitions: where it stands, the free names, the offers and the nodes read so far.
 -- Assumes nothing.
 use Prim.Native.Nat.{ℕ, zero, suc, _+_, _≤_}
 use mathlib.Core.Bool.{true, false}
@@ -7,15 +7,17 @@ use mathlib.Core.List.{List, map}
 use lib.ListN.{length, replicate}
 use lib.Seq.{sets}
 use Rattle.lines.specs.declared.Node.the-variants.{Nil}
-use Rattle.limits.specs.Limits.{longest, mostNames, mostNodes}
+use Rattle.sets.specs.Rows.{emptyRow}
+use Rattle.limits.specs.Limits.{longest, mostChannels, mostNames, mostNodes}
 use Rattle.lines.specs.Scope.{noNames, naming}
 use Rattle.lines.specs.Values.{restAt, endAt, meaningIn}
 use Rattle.reading.specs.declared.Slot.{Slot}
 use Rattle.reading.specs.declared.cursor.Cursor.{Cursor}
 use Rattle.reading.specs.declared.names.Names.{Names}
+use Rattle.reading.specs.declared.offers.Offers.{Offers}
 use Rattle.reading.specs.declared.tree.State.{State}
 use Rattle.reading.specs.Tree.{listing}
-use Rattle.reading.specs.Plan.{Outcome, refused, read, Place, Named, Grown, Reader, slot, noName}
+use Rattle.reading.specs.Plan.{Outcome, refused, read, Place, Named, Offered, laying, Grown, Reader, slot, noName}
 
 -- ---- where reading stands
 
@@ -55,6 +57,25 @@ pub record Gathered (s : List ℕ) (before : Names) (n : Named) (r : Names) : Ty
 abbrev pub Gathers : List ℕ → Names → Outcome Named → Names → Type 0
 Gathers s before (refused f) r = (r .good ≡ false) × (r .refusal ≡ f)
 Gathers s before (read n) r = Gathered s before n r
+
+-- ---- the offers read so far
+
+-- no offer yet
+pub record FreshOffers (cursor : Cursor) (r : Offers) : Type 0 where
+  pub good : r .good ≡ true
+  pub there : r .cursor ≡ cursor
+  pub row : r .row ≡ emptyRow mostChannels
+
+-- r is what was read before, with these offers
+pub record Laid (s : List ℕ) (before : Offers) (offered : Offered) (r : Offers) : Type 0 where
+  pub good : r .good ≡ true
+  pub stands : StandsIn s (r .cursor)
+  pub place : offered .after ≡ placeAt s (r .cursor)
+  pub row : r .row ≡ laying (before .row) (offered .offers)
+
+abbrev pub Lays : List ℕ → Offers → Outcome Offered → Offers → Type 0
+Lays s before (refused f) r = (r .good ≡ false) × (r .refusal ≡ f)
+Lays s before (read offered) r = Laid s before offered r
 
 -- ---- the nodes read so far
 

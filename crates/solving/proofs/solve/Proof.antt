@@ -21,16 +21,18 @@ returns c =
 
 settle-requires : tie.Need-settle-requires
 settle-requires c κs =
-    let q = c .before .before .before .before .read in
-    let text = c .before .before .before .before .before .before .args .text .now in
-    reading-spelled (planIn text) (q .result) (kept text) (q .ensures) (c .before .before .if1 .left)
+    let read = c .before .before .before .before .before in
+    let q = read .read in
+    let text = read .before .before .args .text .now in
+    reading-spelled (planIn text) (q .result) (kept text) (q .ensures) (c .before .before .before .if1 .left)
 
 returns-2 : tie.Need-returns-2
 returns-2 c =
-    let q = c .before .before .before .before .before .read in
-    let a = c .before .before .before .before .before .before .before .args in
+    let read = c .before .before .before .before .before .before in
+    let q = read .read in
+    let a = read .before .before .args in
     plan-solves (planIn (a .text .now)) (q .result) (a .allowance) (c .settle .result) (kept (a .text .now)) (q .ensures)
-    (c .before .before .before .if1 .left) (c .settle .ensures)
+    (c .before .before .before .before .if1 .left) (c .settle .ensures)
 
 pub solve-spec : {M : Type 1} → statement M
 solve-spec = tie.close (tie.spec read-requires refused-requires returns settle-requires returns-2)

@@ -6,10 +6,11 @@ use mathlib.Core.Bool.{Bool, true, false, _&&_}
 use mathlib.Core.List.{List, [], _∷_, _++_}
 use lib.Dec.{eqb}
 use Rattle.limits.specs.Limits.{outermost, placeOf}
-use Rattle.sets.specs.inner.Compute.{withMember}
+use Rattle.sets.specs.inner.Compute.{withMember, listOf}
 use Rattle.lines.specs.declared.Head.{Head}
 use Rattle.lines.specs.declared.Marker.{Marker}
 use Rattle.lines.specs.declared.Marker.the-variants.{Channel, Binder}
+use Rattle.lines.specs.declared.Offer.{Offer}
 use Rattle.reading.specs.Plan.{Outcome, refused, read, Plan, noRefusal}
 use Rattle.reading.specs.Tree.{Tree, nil, silent, send, receive, sum, parallel, restriction, match, replication, bracket}
 use Rattle.solving.specs.declared.Solution.{Solution}
@@ -97,6 +98,13 @@ wanted (receive x y b p) l s = ifSome (each (setIn s x) (outsIn s)) (wanted p l 
 wanted (match x y p) l s = ifSome (meetsIn s x y) (wanted p l s)
 wanted (bracket m p) l s = wanted p m s ++ each s (raised m l)
 
+abbrev pub offerWanted : List Offer → List Fact
+offerWanted offers = each offers (λ offer. each (listOf (offer .set)) (λ o. outSet outermost (offer .channel) o ∷ []))
+
+-- what a round wants, from the root and of the offers
+abbrev pub roundWanted : Plan → List Fact → List Fact
+roundWanted p s = wanted (p .tree) outermost s ++ offerWanted (p .offers)
+
 -- ---- rounds
 
 abbrev pub sameFact : Fact → Fact → Bool
@@ -129,10 +137,10 @@ pub data Run : Type 0 where
   settled : ℕ → List Fact → Run
 
 -- `left` rounds are allowed still, and n have led to s
-unfoldable pub run : Tree → ℕ → ℕ → List Fact → Run
+unfoldable pub run : Plan → ℕ → ℕ → List Fact → Run
 run p zero n s = unfinished
 run p (suc left) n s =
-    let w = wanted p outermost s in elim (allIn w s) [ true ↦ settled (suc n) s | false ↦ run p left (suc n) (addAll s w) ]
+    let w = roundWanted p s in elim (allIn w s) [ true ↦ settled (suc n) s | false ↦ run p left (suc n) (addAll s w) ]
 
 -- ---- the answer
 
@@ -152,4 +160,4 @@ solvedBy h (settled n s) = record { refusal = noRefusal; head = h; count = n; so
 -- what solving answers, by what the text reads as
 abbrev pub solvedOf : Outcome Plan → ℕ → Solved
 solvedOf (refused f) allowance = refusedBy f
-solvedOf (read plan) allowance = solvedBy (plan .head) (run (plan .tree) allowance 0 [])
+solvedOf (read plan) allowance = solvedBy (plan .head) (run plan allowance 0 [])

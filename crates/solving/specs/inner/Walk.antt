@@ -8,13 +8,14 @@ use mathlib.Core.List.{List, [], _∷_, _++_}
 use mathlib.Core.Logic.{_↔_, _⊎_}
 use lib.Dec.{T}
 use lib.ListN.{length, getD}
-use Rattle.limits.specs.Limits.{mostDepth}
 use Rattle.lines.specs.declared.Head.{Head}
 use Rattle.lines.specs.declared.Node.{Node}
 use Rattle.lines.specs.declared.Node.the-variants.{Nil, Silent, Send, Receive, Sum, Parallel, Restriction, Match, Replication, Bracket}
 use Rattle.reading.specs.declared.Slot.{Slot}
+use Rattle.sets.specs.Rows.{SetRow}
 use Rattle.lines.specs.Promise.{HeadWithin, NodeWithin}
-use Rattle.reading.specs.Promise.{EachWithin}
+use Rattle.reading.specs.Plan.{Plan, offerRow}
+use Rattle.reading.specs.Promise.{EachWithin, PlanWithin}
 use Rattle.reading.specs.Tree.{branchCount, Tree, listing, depth}
 use Rattle.solving.specs.declared.clauses.Step.{Step}
 use Rattle.solving.specs.declared.Solved.{Solved}
@@ -138,24 +139,25 @@ pub record Walked (ns : List Slot) (at level branches : ℕ) (live : Bool) (old 
 
 -- ---- rounds
 
--- the nodes are those of a plan with this head and this tree
-pub record Spells (h : Head) (ns : List Slot) (p : Tree) : Type 0 where
-  pub fits : HeadWithin h
-  pub planted : Planted h mostDepth ns 0 (p ∷ [])
+-- the nodes and the row of offers are those of this plan
+pub record Spells (ns : List Slot) (row : SetRow) (p : Plan) : Type 0 where
+  pub within : PlanWithin p
+  pub stands : Stands ns 0 (listing (p .tree))
+  pub offers : row ≡ offerRow (p .offers)
+
+-- the head, the nodes and the row are some plan's
+abbrev pub Spelled : Head → List Slot → SetRow → Type 0
+Spelled h ns row = (p : Plan) × (h ≡ p .head) × Spells ns row p
+
+-- the nodes are some plan's, whatever its head and its offers
+abbrev pub IsPlan : List Slot → Type 0
+IsPlan ns = (row : SetRow) × (p : Plan) × Spells ns row p
 
 -- what a round makes of old
-pub record Rounded (ns : List Slot) (old r : List ℕ) : Type 0 where
-  pub adds : (p : Tree) → Stands ns 0 (listing p) → Adds old r (Wanted p (inTable old))
+pub record Rounded (ns : List Slot) (row old r : SetRow) : Type 0 where
+  pub adds : (p : Plan) → Spells ns row p → Adds old r (Wanted p (inTable old))
   pub sized : length r ≡ tableSize
 
--- some plan with this head has these nodes
-abbrev pub Spelled : Head → List Slot → Type 0
-Spelled h ns = (p : Tree) × Spells h ns p
-
--- some plan has them
-abbrev pub IsPlan : List Slot → Type 0
-IsPlan ns = (h : Head) × Spelled h ns
-
 -- what rounds within an allowance answer
-abbrev pub Settles : Head → List Slot → ℕ → Solved → Type 0
-Settles h ns allowance r = (p : Tree) → Spells h ns p → Answered h p allowance r ⊎ RoundsSpent p allowance r
+abbrev pub Settles : Head → List Slot → SetRow → ℕ → Solved → Type 0
+Settles h ns row allowance r = (p : Plan) → h ≡ p .head → Spells ns row p → Answered p allowance r ⊎ RoundsSpent p allowance r

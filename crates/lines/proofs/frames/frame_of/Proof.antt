@@ -44,6 +44,9 @@ row-requires-12 c κs = search needs
 row-requires-13 : tie.Need-row-requires-13
 row-requires-13 c κs = search needs
 
+row-requires-14 : tie.Need-row-requires-14
+row-requires-14 c κs = search needs
+
 returns : tie.Need-returns
 unfolding table frameFrom
 returns c = rw (c .before .match .keys1) (c .row .ensures)
@@ -94,7 +97,11 @@ returns-12 c = rw (c .before .match .keys12) (c .row12 .ensures)
 
 returns-13 : tie.Need-returns-13
 unfolding table frameFrom
-returns-13 c =
+returns-13 c = rw (c .before .match .keys13) (c .row13 .ensures)
+
+returns-14 : tie.Need-returns-14
+unfolding table frameFrom
+returns-14 c =
     let first = c .before .before .args .first in
     let rest = c .before .match .rest in
     simp (
@@ -108,9 +115,10 @@ returns-13 c =
       ne-eqb first 0x12 (rest .0 .0 .0 .0 .0 .0 .0 .1),
       ne-eqb first 0x11 (rest .0 .0 .0 .0 .0 .0 .0 .0 .1),
       ne-eqb first 0x10 (rest .0 .0 .0 .0 .0 .0 .0 .0 .0 .1),
-      ne-eqb first 0x02 (rest .0 .0 .0 .0 .0 .0 .0 .0 .0 .0 .1),
-      ne-eqb first 0x01 (rest .0 .0 .0 .0 .0 .0 .0 .0 .0 .0 .0 .1),
-    ) (c .row13 .ensures)
+      ne-eqb first 0x03 (rest .0 .0 .0 .0 .0 .0 .0 .0 .0 .0 .1),
+      ne-eqb first 0x02 (rest .0 .0 .0 .0 .0 .0 .0 .0 .0 .0 .0 .1),
+      ne-eqb first 0x01 (rest .0 .0 .0 .0 .0 .0 .0 .0 .0 .0 .0 .0 .1),
+    ) (c .row14 .ensures)
 
 pub frame-of-spec : {M : Type 1} → statement M
 frame-of-spec =
@@ -129,6 +137,7 @@ frame-of-spec =
     row-requires-11
     row-requires-12
     row-requires-13
+    row-requires-14
     returns
     returns-2
     returns-3
@@ -141,4 +150,5 @@ frame-of-spec =
     returns-10
     returns-11
     returns-12
-    returns-13)
+    returns-13
+    returns-14)

@@ -8,20 +8,20 @@ use native.Mathlib.Omega.{arith}
 use lib.ListN.{length}
 use Rattle.sets.specs.Rows.{SetRow}
 use Rattle.sets.proofs.SameRows.{empty-length}
-use Rattle.reading.specs.Tree.{Tree, listing}
+use Rattle.reading.specs.Plan.{Plan}
 use Rattle.solving.specs.inner.Table.{tableSize}
-use Rattle.solving.specs.inner.Walk.{Stands}
+use Rattle.solving.specs.inner.Walk.{Spells}
 use Rattle.solving.proofs.Leastness.{busy-exceeds}
-use Rattle.solving.proofs.Settling.{Reached, reached-none, reached-more, settled-if, answered-by, spelled-stands, spelled-within}
+use Rattle.solving.proofs.Settling.{Reached, reached-none, reached-more, settled-if, answered-by}
 use Rattle.solving.proofs.rounds.settle.Statement.{statement}
 use Rattle.solving.proofs.rounds.settle.Tie as tie
 
 abbrev Inv-loop : tie.InvT-loop
-Inv-loop head nodes allowance table₀ count₀ table count =
-    (count ≤ allowance) × (length table ≡ tableSize) × ((p : Tree) → Stands nodes 0 (listing p) → Reached p count table)
+Inv-loop head nodes offers allowance table₀ count₀ table count =
+    (count ≤ allowance) × (length table ≡ tableSize) × ((p : Plan) → Spells nodes offers p → Reached p count table)
 
 abbrev μ-loop : tie.MeasureT-loop
-μ-loop head nodes allowance table₀ count₀ table count = allowance - count
+μ-loop head nodes offers allowance table₀ count₀ table count = allowance - count
 
 empty-requires : tie.Need-empty-requires Inv-loop μ-loop
 empty-requires c κs = tt
@@ -32,7 +32,9 @@ loop-holds c =
     (omega arith, ap (λ (t : SetRow). length t) e ∙ empty-length tableSize, λ p h. subst⁻¹ (Reached p 0) e (reached-none p))
 
 round-requires : tie.Need-round-requires Inv-loop μ-loop
-round-requires c κs = (c .before .before .before .args .head, c .before .before .before .pre)
+round-requires c κs =
+    let start = c .before .before .before in
+    (start .args .offers, start .pre .0, start .pre .2)
 
 add-count : tie.Need-add-count Inv-loop μ-loop
 add-count c = omega arith
@@ -55,11 +57,11 @@ returns c =
     let round = first .before .before .before .before .round in
     let at = first .before .before .before .before .before .before .loop in
     let a = first .before .before .before .before .before .before .before .before .args in
-    λ p s.
-    let r = at .inv .2 p (spelled-stands s) in
+    λ p h s.
+    let r = at .inv .2 p s in
     let same = first .before .same .ensures .yes (first .if1 .taken) in
-    let settled = settled-if p (at .count) (at .table) (round .result) r (round .ensures .adds p (spelled-stands s)) same in
-    inl (answered-by (a .head) p (a .allowance) (at .count) (at .table) _ (spelled-within s) r settled (omega arith) refl refl refl (c .solution-of .ensures))
+    let settled = settled-if p (at .count) (at .table) (round .result) r (round .ensures .adds p s) same in
+    inl (answered-by p (a .allowance) (at .count) (at .table) _ (s .within) r settled (omega arith) refl h refl (c .solution-of .ensures))
 
 loop-less : tie.Need-loop-less Inv-loop μ-loop
 loop-less c = omega arith
@@ -82,9 +84,9 @@ returns-2 : tie.Need-returns-2 Inv-loop μ-loop
 returns-2 c =
     let at = c .before .before .loop in
     let a = c .before .before .before .before .args in
-    λ p s.
+    λ p h s.
     let r : Reached p (a .allowance) (at .table) =
-    subst (λ n. Reached p n (at .table)) (let e : at .count ≡ a .allowance = omega arith in e) (at .inv .2 p (spelled-stands s)) in
+    subst (λ n. Reached p n (at .table)) (let e : at .count ≡ a .allowance = omega arith in e) (at .inv .2 p s) in
     inr (record { exceeds = busy-exceeds p (a .allowance) (r .busy); is = c .refused .ensures })
 
 pub settle-spec : {M : Type 1} → statement M

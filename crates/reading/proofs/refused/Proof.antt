@@ -1,0 +1,13 @@
+-- `refused`: nothing read, and a row of the empty set. Assumes nothing.
+use borrow.Author.Needs.{needs}
+use Rattle.reading.proofs.refused.Statement.{statement}
+use Rattle.reading.proofs.refused.Tie as tie
+
+empty-requires : tie.Need-empty-requires
+empty-requires c κs = search needs
+
+returns : tie.Need-returns
+returns c = rw (c .empty .ensures)
+
+pub refused-spec : {M : Type 1} → statement M
+refused-spec = tie.close (tie.spec empty-requires returns)
