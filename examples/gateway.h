@@ -25,7 +25,7 @@ extern "C" {
 #define HJALTROPA_TEXT 16384
 
 /* Bytes of stack that suffice for a call. Measured, not proved: the deepest call in examples/threads.c, hjaltropa_reach on a tree of depth 33,
-   took 304,631 with the library optimised for x86-64, as the toolchain compiles it; the rest is margin. What the caller's own functions take
+   took 305,063 with the library optimised for x86-64, as the toolchain compiles it; the rest is margin. What the caller's own functions take
    comes on top. The main thread and most others have more than that; a thread that is given a small stack has to be given so much. */
 #define HJALTROPA_STACK 393216
 
@@ -44,6 +44,10 @@ size_t hjaltropa_sheet(const uint8_t *text, size_t text_length, uint16_t allowan
        3001           flow clear     no level may send a handle on a channel where a lower level may receive it
        3000hhggccoo   flow breach    level hh may send handle oo on channel cc, where level gg, which is lower, may receive it
        3fnnllll       refused        there is no verdict: refusal nn at line llll, which is 0 where no line is at fault
+
+   The digits of a refusal are hexadecimal like the others: 3f100002 is refusal 16 at line 2, and 3f0a0102 is refusal 10 at line 258.
+   docs/PLAN.md says what each number means. A breach is of two levels from 00 to 06. The outside, 07, ranks with none of them: that an offer of
+   the plan comes in is no breach, and that a level hands it down to a lower one is.
 
    So a plan is clear exactly if its sheet is in the buffer and ends in the first of them; take nothing else for a yes:
 

@@ -73,3 +73,23 @@ repeat() {
         left=$((left - 1))
     done
 }
+
+# can_fail CHECK..: a check that is handed a fault counts it. It is tried in a shell of its own, so that only the trial is counted; and where the check
+# holds all the same nothing that follows says anything, so that this is the end.
+can_fail() {
+    if [ "$("$@" >"$work/tried"; echo $failed)" = 1 ]; then
+        held
+    else
+        echo "sheet.sh: this check can not fail: $*"
+        exit 1
+    fi
+}
+name=trial
+: >"$work/out"
+echo one >"$work/err"
+can_fail silent
+can_fail says another
+can_fail hints another
+can_fail true_that 'a command that fails' false
+can_fail expect 'another status' 0 "$work/nothing" false
+can_fail expect 'other bytes' 0 "$work/nothing" echo one

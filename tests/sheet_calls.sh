@@ -53,7 +53,7 @@ where FILE is -, the plan is read from standard input.
               on which channel; no sheet. Without --level, a line for each level of the
               plan and one for the whole relay
   --level     the LEVEL that --reaches asks after: 0 to 6, or 7 or '#' for the whole
-              relay, outside and desks together
+              relay, its desks and what the plan has outside them
   --source    the text is a source: its remarks (# to the line's end), blanks, tabs and a
               carriage return at a line's end are left out, and A-F count as a-f
   --plan      the text is a plan's text, taken strictly

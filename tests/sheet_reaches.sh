@@ -38,16 +38,24 @@ reaches examples/keeps.plan 2 1 'Handle 2 never reaches level 0.' 'Handle 2 may 
     'Handle 2 may be received somewhere in the relay, on channel 0.'
 reaches examples/keeps.plan 3 1 'Handle 3 may reach level 0, on channel 1.' 'Handle 3 never reaches level 1.' \
     'Handle 3 may be received somewhere in the relay, on channel 1.'
-reaches examples/keeps.plan 4 0 'Handle 4 never reaches level 0.' 'Handle 4 never reaches level 1.' \
-    'Handle 4 may be received somewhere in the relay, on channel 2.'
+reaches examples/keeps.plan 4 0 'Handle 4 never reaches level 0.' 'Handle 4 never reaches level 1.' 'Handle 4 is received nowhere in the relay.'
 reaches examples/keeps.plan 0 0 'Handle 0 never reaches level 0.' 'Handle 0 never reaches level 1.' 'Handle 0 is received nowhere in the relay.'
 reaches examples/breaks.plan 2 1 'Handle 2 may reach level 0, on channel 1.' 'Handle 2 may reach level 1, on channel 0.' \
     'Handle 2 may be received somewhere in the relay, on channel 0.'
 reaches examples/breaks.source 3 1 'Handle 3 may reach level 0, on channel 1.' 'Handle 3 never reaches level 1.' \
     'Handle 3 may be received somewhere in the relay, on channel 1.'
 
-# A yes, and yet the handle may reach the caretaker: the household sends it, from outside every desk.
-sed 's/^120103$/120102/' examples/keeps.plan >"$work/plan"
+# The household as a part of the plan: it receives the answer, outside every desk.
+reaches "$work/household.plan" 4 0 'Handle 4 never reaches level 0.' 'Handle 4 never reaches level 1.' \
+    'Handle 4 may be received somewhere in the relay, on channel 2.'
+
+# A yes, and yet the handle may reach the caretaker: it comes in by an offer, or the household sends it, from outside every desk.
+sed 's/^030100000008$/030100000004/' examples/keeps.plan >"$work/plan"
+./sheet "$work/plan" >"$work/out"
+true_that 'an offer that tells the caretaker: yes' [ $? = 0 ]
+reaches "$work/plan" 2 1 'Handle 2 may reach level 0, on channel 1.' 'Handle 2 may reach level 1, on channel 0.' \
+    'Handle 2 may be received somewhere in the relay, on channel 0.'
+sed 's/^120103$/120102/' "$work/household.plan" >"$work/plan"
 ./sheet "$work/plan" >"$work/out"
 true_that 'a household that tells the caretaker: yes' [ $? = 0 ]
 reaches "$work/plan" 2 1 'Handle 2 may reach level 0, on channel 1.' 'Handle 2 may reach level 1, on channel 0.' \
@@ -71,10 +79,26 @@ reaches "$seven" 29 1 'Handle 29 never reaches level 0.' 'Handle 29 never reache
     'Handle 29 never reaches level 3.' 'Handle 29 never reaches level 4.' 'Handle 29 never reaches level 5.' \
     'Handle 29 may reach level 6, on channel 23.' 'Handle 29 may be received somewhere in the relay, on channel 23.'
 
+# Seven levels, and offers: a handle that two levels receive, one that comes by a send too, one that a desk sends too, and one that nobody receives.
+reaches "$work/offers.plan" 31 1 'Handle 31 never reaches level 0.' 'Handle 31 never reaches level 1.' \
+    'Handle 31 may reach level 2, on channel 17.' 'Handle 31 never reaches level 3.' 'Handle 31 may reach level 4, on channel 17.' \
+    'Handle 31 never reaches level 5.' 'Handle 31 never reaches level 6.' 'Handle 31 may be received somewhere in the relay, on channel 17.'
+reaches "$work/offers.plan" 10 1 'Handle 10 never reaches level 0.' 'Handle 10 never reaches level 1.' \
+    'Handle 10 may reach level 2, on channel 17.' 'Handle 10 may reach level 3, on channel 18.' 'Handle 10 may reach level 4, on channel 17.' \
+    'Handle 10 never reaches level 5.' 'Handle 10 never reaches level 6.' 'Handle 10 may be received somewhere in the relay, on channel 17.'
+reaches "$work/offers.plan" 6 1 'Handle 6 never reaches level 0.' 'Handle 6 never reaches level 1.' 'Handle 6 never reaches level 2.' \
+    'Handle 6 never reaches level 3.' 'Handle 6 never reaches level 4.' 'Handle 6 may reach level 5, on channel 19.' \
+    'Handle 6 never reaches level 6.' 'Handle 6 may be received somewhere in the relay, on channel 19.'
+reaches "$work/offers.plan" 16 0 'Handle 16 never reaches level 0.' 'Handle 16 never reaches level 1.' 'Handle 16 never reaches level 2.' \
+    'Handle 16 never reaches level 3.' 'Handle 16 never reaches level 4.' 'Handle 16 never reaches level 5.' \
+    'Handle 16 never reaches level 6.' 'Handle 16 is received nowhere in the relay.'
+
 # Where nothing is sent at all, and where no desk receives.
 lines 010101000000 10 >"$work/plan"
 reaches "$work/plan" 0 0 'Handle 0 never reaches level 0.' 'Handle 0 is received nowhere in the relay.'
 lines 010102010002 020000 020101 15 120001 10 13000500 10 >"$work/plan"
+reaches "$work/plan" 1 0 'Handle 1 never reaches level 0.' 'Handle 1 may be received somewhere in the relay, on channel 0.'
+lines 010102010001 020000 030000000002 13000500 10 >"$work/plan"
 reaches "$work/plan" 1 0 'Handle 1 never reaches level 0.' 'Handle 1 may be received somewhere in the relay, on channel 0.'
 
 # README's questions of an example, each with its answer below it.
@@ -144,6 +168,8 @@ asks 'a question of nothing' 2 --reaches 31 --level 6 "$work/1.plan"
 asks 'a question of a text that is too long' 2 --reaches 0 --plan "$work/longer"
 lines 'The plan is refused at line 15: a name is used that has no meaning there (refusal 9).' >"$work/wanted"
 asks 'a question of a refused plan' 2 --reaches 0 "$work/9.plan"
+lines 'The plan is refused at line 18: an offer has no handle (refusal 16).' >"$work/wanted"
+asks 'a question of a plan with an offer without a handle' 2 --reaches 0 --level 6 "$work/16.plan"
 lines 'The plan is refused after the last line: the text ends before the tree is closed (refusal 12).' >"$work/wanted"
 asks 'a question of a plan cut short' 2 --reaches 0 --level 7 "$work/12.plan"
 for number in 2 3 4 5 6 7 8 10 11 13; do
@@ -151,10 +177,13 @@ for number in 2 3 4 5 6 7 8 10 11 13; do
     asks "a question of a plan that is refused $number" 2 --reaches 31 --level 6 "$work/$number.plan"
 done
 sed 's/^12 05 04 /12 05 09 /' examples/keeps.source >"$work/source"
-lines 'The plan is refused at line 26 of the source: a name is used that has no meaning there (refusal 9).' >"$work/wanted"
+lines 'The plan is refused at line 22 of the source: a name is used that has no meaning there (refusal 9).' >"$work/wanted"
 asks 'a question of a refused source' 2 --reaches 2 --level 0 "$work/source"
 expect 'a question of a refused source on standard input' 2 "$work/wanted" sh -c "./sheet --reaches 2 <'$work/source'"
 silent
+sed 's/^03 00 00000004 /03 00 00000000 /' examples/keeps.source >"$work/source"
+lines 'The plan is refused at line 15 of the source: an offer has no handle (refusal 16).' >"$work/wanted"
+asks 'a question of a source with an offer without a handle' 2 --reaches 2 --level 0 "$work/source"
 lines "The plan is refused at line 1: the line has a character other than 0-9 a-f ('#', place 1) and has an odd number of characters (refusal 2)." \
     >"$work/wanted"
 asks 'a question of a source as a plan' 2 --plan --reaches 2 examples/keeps.source
@@ -303,6 +332,8 @@ unreached() {
 }
 unreached 3f090005 refused
 unreached 3f020002 refused
+unreached 3f100000 refused
+unreached 3f100002 refused
 unreached 23050900 'reach complete'
 unreached 23001300 'reach complete'
 unreached 23000913 'reach complete'

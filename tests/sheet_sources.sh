@@ -32,6 +32,19 @@ expect 'a source as a plan' 2 "$work/refused" ./sheet --plan examples/keeps.sour
 silent
 expect 'the option for a plan' 1 "$work/breach.sheet" ./sheet --plan "$work/breach.plan"
 
+# An offer by other hands.
+{
+    printf '# Offers\r\n01 01 20 01 06 01\r\n02 00 1E\t# works\r\n\r\n# in\r\n\t03 1E\t8000 000A # 1, 3 and 31\r\n03 1F 00 00 00 80\r\n'
+    printf '19 05\r\n13 00 02 00\r\n10'
+} >"$work/offers"
+lines 2f0004 20008000000a 21051e8000000a 21071e8000000a 22071e8000000a 22071f00000080 3001 'flow clear' \
+    "$yes" "$outside" 'From outside, handle 1 may be sent on channel 30, where level 5 may receive it.' \
+    'From outside, handle 3 may be sent on channel 30, where level 5 may receive it.' \
+    'From outside, handle 31 may be sent on channel 30, where level 5 may receive it.' \
+    'From outside, handle 7 may be sent on channel 31, where no level may receive it.' >"$work/both"
+expect 'offers by other hands' 0 "$work/both" ./sheet --words "$work/offers"
+silent
+
 # refused_source NAME NUMBER BYTES PLACE OF REASON: the source $work/source is refused so; BYTES is the plan's line, and PLACE that of the source.
 refused_source() {
     lines "$(printf '3f%02x%s' "$2" "$3")" refused >"$work/sheet"
@@ -46,7 +59,13 @@ refused_source() {
 }
 meaningless='a name is used that has no meaning there'
 sed 's/^12 05 04 /12 05 09 /' examples/keeps.source >"$work/source"
-refused_source 'a name in a source' 9 0010 ' at line 26' ' of the source' "$meaningless"
+refused_source 'a name in a source' 9 000b ' at line 22' ' of the source' "$meaningless"
+sed 's/^03 00 00000004 /03 00 00000000 /' examples/keeps.source >"$work/source"
+refused_source 'an offer without a handle in a source' 16 0005 ' at line 15' ' of the source' 'an offer has no handle'
+sed 's/^03 01 00000008 /03 01 00000020 /' examples/keeps.source >"$work/source"
+refused_source 'an offered handle in a source' 7 0006 ' at line 16' ' of the source' "$high"
+sed 's/^03 01 00000008 /03 00 00000008 /' examples/breaks.source >"$work/source"
+refused_source 'two offers on a channel in a source' 8 0006 ' at line 16' ' of the source' "$disordered"
 { repeat 300 '# a long remark' && lines '010101000000' '' '120000'; } >"$work/source"
 refused_source 'a long source' 9 0002 ' at line 303' ' of the source' "$meaningless"
 lines '# a slip' '' '  01 01 01 00 00 00' '#' '  1 G # nil?' >"$work/source"

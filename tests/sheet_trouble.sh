@@ -231,6 +231,23 @@ unfitting --words 3f0c0002 refused
 lines 3f0c0003 refused >"$work/both"
 program "cat '$work/both'"
 expect 'an end behind the last line' 2 "$work/both" false_sheet "$work/plan"
+# An offer without a handle where there is none: no line, a head, a node, an offer with a handle or of another length, and what is no line.
+unfitting --plan 3f100000 refused
+unfitting --plan 3f100001 refused
+unfitting --plan 3f100002 refused
+unfitting --words 3f100002 refused
+unfitting --plan 3f100003 refused
+lines 010120000000 031180000000 031200000000 0313000000 03140000000000 10 >"$work/plan"
+unfitting --plan 3f100002 refused
+unfitting --plan 3f100004 refused
+unfitting --plan 3f100005 refused
+unfitting --plan 3f100006 refused
+lines 3f100003 refused 'The plan is refused at line 3: an offer has no handle (refusal 16).' >"$work/both"
+program "$(printing 3f100003 refused)"
+expect 'an offer without a handle' 2 "$work/both" false_sheet --words "$work/plan"
+silent
+printf '010120000000\n031200000000' >"$work/plan"
+unfitting --plan 3f100002 refused
 # A last line that lacks its line feed is refused 2, and never 12; nor is a text that has no line.
 printf '010101000000\n11' >"$work/plan"
 unfitting --plan 3f0c0002 refused
@@ -241,6 +258,26 @@ lines "$work/plan: trouble: the sheet does not fit the plan" >"$work/both"
 expect 'a refusal that can not be, among many' 3 "$work/both" false_sheet --each "$work/plan"
 lines 010101000000 15 10 >"$work/plan"
 unfitting --words 2f0001 3001 'flow clear'
+# A yes to a plan with offers has in its sets, of the outside, all that is offered; and there is none where an offer stands in the tree.
+lines 010120000000 031180000000 031200000024 10 >"$work/plan"
+unfitting --words 2f0002 3001 'flow clear'
+unfitting --words 2f0002 22071180000000 22071200000004 3001 'flow clear'
+unfitting --words 2f0002 22071100000001 22071200000024 3001 'flow clear'
+unfitting --words 2f0002 22001180000000 22001200000024 3001 'flow clear'
+unfitting --words 2f0002 21071180000000 21071200000024 3001 'flow clear'
+unfitting --words 2f0002 21071180000000 22071200000024 3001 'flow clear'
+lines 2f0002 22071180000001 22071200000024 3001 'flow clear' >"$work/offered"
+program "cat '$work/offered'"
+lines "$yes" "$outside" 'From outside, handle 31 may be sent on channel 17, where no level may receive it.' \
+    'From outside, handle 2 may be sent on channel 18, where no level may receive it.' \
+    'From outside, handle 5 may be sent on channel 18, where no level may receive it.' | cat "$work/offered" - >"$work/both"
+expect 'a yes that has all that is offered' 0 "$work/both" false_sheet --words "$work/plan"
+silent
+lines 010120000000 11 031180000000 10 >"$work/plan"
+unfitting --words 2f0002 22071180000000 3001 'flow clear'
+lines 010120000001 031180000000 020000 10 >"$work/plan"
+unfitting --words 2f0002 22071180000000 3001 'flow clear'
+lines 010101000000 15 10 >"$work/plan"
 program "$(printing 3f630003 refused)"
 lines 3f630003 refused 'The plan is refused at line 3: for a reason that this program does not know (refusal 99).' >"$work/both"
 expect 'an unknown refusal' 2 "$work/both" false_sheet --words "$work/plan"

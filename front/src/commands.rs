@@ -7,13 +7,14 @@ use crate::arguments::{self, Request, USAGE};
 use crate::head::Head;
 use crate::input::Input;
 use crate::output::{message, message_about, print};
+use crate::outside;
 use crate::program;
 use crate::proving::{prove, Program, Proved};
 use crate::reach::{self, Question, Reach, Received};
 use crate::refusal::{account, Account};
 use crate::sheet::{self, Breach, Refusal, Sets, Sheet, OUTSIDE};
 use crate::text::{Form, Text};
-use crate::tree::sends_outside;
+use crate::tree::from_outside;
 use crate::words;
 
 const VERSION: &str = concat!(
@@ -40,7 +41,7 @@ where FILE is -, the plan is read from standard input.
               on which channel; no sheet. Without --level, a line for each level of the
               plan and one for the whole relay
   --level     the LEVEL that --reaches asks after: 0 to 6, or 7 or '#' for the whole
-              relay, outside and desks together
+              relay, its desks and what the plan has outside them
   --source    the text is a source: its remarks (# to the line's end), blanks, tabs and a
               carriage return at a line's end are left out, and A-F count as a-f
   --plan      the text is a plan's text, taken strictly
@@ -262,8 +263,10 @@ fn lines(sentences: &[String]) -> Vec<u8> {
 fn sentences(verdict: &Verdict, text: &Text) -> Result<Vec<String>, String> {
     match verdict {
         Verdict::Clear(sets) => {
-            let sends = sends_outside(&text.plan()).ok_or(UNFITTING)?;
-            Ok(words::clear(&sends, sets))
+            let outside = from_outside(&text.plan())
+                .filter(|outside| outside::fits(outside, sets))
+                .ok_or(UNFITTING)?;
+            Ok(words::clear(&outside, sets))
         }
         Verdict::Breach(breach) => Ok(words::breach(breach)),
         Verdict::Refused(account) => Ok(vec![words::refused(account, text.is_source())]),

@@ -1,8 +1,9 @@
 //! Refusals in words: where the fault stands in the text as it was written, and what it is.
 
-use crate::digits::digit;
+use crate::digits::{bytes_of, digit};
 use crate::sheet::Refusal;
 use crate::text::{Line, Text};
+use crate::tree::OFFER;
 
 /// Where a refusal points.
 #[derive(Debug, PartialEq, Eq)]
@@ -35,6 +36,7 @@ pub fn account(refusal: &Refusal, text: &Text) -> Option<Account> {
             let line = text.line(line)?;
             let reason = match number {
                 2 => faults(&line)?,
+                16 if !offers_nothing(&line) => return None,
                 _ => reason(number).to_owned(),
             };
             (Place::Line(line.number), reason)
@@ -55,16 +57,27 @@ fn reason(number: u8) -> &'static str {
         4 => "the line has the wrong number of bytes for its first one",
         5 => "the edition is another than 01",
         6 => "the number of channels, binders, levels or free names is outside its limits",
-        7 => "a name is over 63, or a channel, a binder or a level is higher than the head allows",
-        8 => "the free names are not strictly ascending",
+        7 => {
+            "a name is over 63, or a channel, an offered handle, a binder or a level is higher \
+             than the head allows"
+        }
+        8 => "the free names, or the channels of the offers, are not strictly ascending",
         9 => "a name is used that has no meaning there",
         10 => "this is the 257th node",
         11 => "this node stands at depth 33",
         12 => "the text ends before the tree is closed",
         13 => "there is more text after the tree has closed",
         14 => "more rounds are needed than were allowed",
+        16 => "an offer has no handle",
         _ => "for a reason that this program does not know",
     }
+}
+
+/// Whether a line is an offer without a handle.
+fn offers_nothing(line: &Line) -> bool {
+    let characters = line.characters.iter();
+    let digits: Vec<u8> = characters.map(|character| character.byte).collect();
+    line.ended && matches!(bytes_of(&digits).as_deref(), Some([OFFER, _, 0, 0, 0, 0]))
 }
 
 /// What makes a line no line of digits, all of it, or nothing.
@@ -164,6 +177,21 @@ mod tests {
     }
 
     #[test]
+    fn the_refusals_of_an_offer_speak_of_it() {
+        let plan = "010103000000\n030100000002\n030200000000\n10\n";
+        let (place, reason) = told(16, 3, plan).unwrap();
+        assert_eq!(place, Place::Line(3));
+        assert_eq!(reason, "an offer has no handle");
+        let source = "# x\n010120000000\n\n 03 1F 0000 0000 # none\n10";
+        assert_eq!(told(16, 2, source).unwrap().0, Place::Line(4));
+        for (number, what) in [(7, "an offered handle"), (8, "the channels of the offers")] {
+            let (place, reason) = told(number, 3, plan).unwrap();
+            assert_eq!(place, Place::Line(3));
+            assert!(reason.contains(what), "{reason}");
+        }
+    }
+
+    #[test]
     fn some_refusals_have_no_line() {
         assert_eq!(told(1, 0, "").unwrap().0, Place::Text);
         assert_eq!(told(14, 0, "10\n").unwrap().0, Place::Text);
@@ -193,6 +221,20 @@ mod tests {
             (12, 3, "010101000000\n11"),
             // In a source the lines count that its plan has.
             (12, 4, "# x\n010101000000\n11\n"),
+            // Only an offer without a handle is refused 16.
+            (16, 0, "010101000000\n030000000000\n"),
+            (16, 1, "010101000000\n030000000000\n"),
+            (16, 3, "010101000000\n030000000000\n"),
+            (16, 2, "010101000000\n030000000001\n"),
+            (16, 2, "010101000000\n030001000000\n"),
+            (16, 2, "010101000000\n020000000000\n"),
+            (16, 2, "010101000000\n0300000000\n"),
+            (16, 2, "010101000000\n03000000000000\n"),
+            (16, 2, "010101000000\n03000000000\n"),
+            (16, 2, "010101000000\n03000000000g\n"),
+            (16, 2, "010101000000\n030000000000"),
+            (16, 2, "010101000000\n\n"),
+            (16, 3, "# x\n010101000000\n030000000000\n"),
         ] {
             assert_eq!(
                 told(number, line, text),

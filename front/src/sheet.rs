@@ -19,7 +19,7 @@ const BINDERS: u8 = 32;
 pub const REFUSED: &[u8] = b"refused";
 
 /// A set of channels, channel c as bit c.
-type Bits = u32;
+pub type Bits = u32;
 
 const SET_BYTES: usize = size_of::<Bits>();
 
@@ -58,10 +58,7 @@ pub struct Refusal {
 impl Sets {
     /// The channels that a binder may stand for, ascending.
     pub fn of_binder(&self, binder: u8) -> Vec<u8> {
-        let bits = self.of_binders.get(&binder).copied().unwrap_or(0);
-        (0..CHANNELS)
-            .filter(|channel| has(bits, *channel))
-            .collect()
+        members(self.of_binders.get(&binder).copied().unwrap_or(0))
     }
 
     /// Whether a level may receive a handle on a channel.
@@ -105,6 +102,13 @@ impl Sets {
                     .any(|received| sent & received != 0)
         })
     }
+}
+
+/// The channels in a set, ascending.
+pub fn members(bits: Bits) -> Vec<u8> {
+    (0..CHANNELS)
+        .filter(|channel| has(bits, *channel))
+        .collect()
 }
 
 /// Whether a set has a channel.

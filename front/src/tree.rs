@@ -1,10 +1,12 @@
-//! The tree of a plan that the proved program has taken: which sends stand in no
-//! bracket, and what their names mean there.
+//! What a plan that the proved program has taken has outside every desk: its
+//! offers, and the sends of its tree that stand in no bracket, with what their
+//! names mean there.
 
 use std::collections::BTreeMap;
 
 use crate::digits::bytes_of;
 use crate::head::Head;
+use crate::sheet::{members, Bits};
 
 /// What a name means.
 #[derive(Clone, Copy, Debug, PartialEq, Eq)]
@@ -19,6 +21,23 @@ pub struct SendNode {
     pub subject: Marker,
     pub object: Marker,
 }
+
+/// A channel, and the handles that households may send on it.
+#[derive(Debug, PartialEq, Eq)]
+pub struct Offer {
+    pub channel: u8,
+    pub handles: Vec<u8>,
+}
+
+/// The offers of a plan, and its sends that stand in no bracket, both in text order.
+#[derive(Debug, PartialEq, Eq)]
+pub struct FromOutside {
+    pub offers: Vec<Offer>,
+    pub sends: Vec<SendNode>,
+}
+
+/// The first byte of an offer.
+pub const OFFER: u8 = 0x03;
 
 /// A place in the tree where a node is still to come.
 #[derive(Clone)]
@@ -40,25 +59,56 @@ impl Place {
     }
 }
 
-/// The sends that stand in no bracket, in text order; nothing for a text that is no plan.
-pub fn sends_outside(plan: &[u8]) -> Option<Vec<SendNode>> {
+/// What a plan has outside every desk; nothing for a text that is no plan.
+pub fn from_outside(plan: &[u8]) -> Option<FromOutside> {
     let lines = plan.strip_suffix(b"\n")?.split(|byte| *byte == b'\n');
-    let mut frames = lines.map(bytes_of).skip(1);
+    let frames: Vec<Vec<u8>> = lines.map(bytes_of).collect::<Option<_>>()?;
+    let free_names = usize::from(Head::of(plan)?.free_names);
+    let (names, behind) = frames.get(1..)?.split_at_checked(free_names)?;
+    let is_node = |frame: &Vec<u8>| frame.first() != Some(&OFFER);
+    let first_node = behind.iter().position(is_node)?;
+    let (offers, nodes) = behind.split_at(first_node);
+    let offers: Option<Vec<Offer>> = offers.iter().map(|frame| offer(frame)).collect();
+    Some(FromOutside {
+        offers: offers?,
+        sends: sends(root(names)?, nodes)?,
+    })
+}
+
+/// The place of the tree's first node, where the free names have their meanings.
+fn root(names: &[Vec<u8>]) -> Option<Place> {
     let mut root = Place {
         meanings: BTreeMap::new(),
         bracketed: false,
     };
-    for _ in 0..Head::of(plan)?.free_names {
-        let [0x02, name, channel] = frames.next()??[..] else {
+    for frame in names {
+        let [0x02, name, channel] = frame[..] else {
             return None;
         };
         root = root.with(name, Marker::Channel(channel));
     }
+    Some(root)
+}
+
+/// The offer of a frame, if it is one.
+fn offer(frame: &[u8]) -> Option<Offer> {
+    let [OFFER, channel, set @ ..] = frame else {
+        return None;
+    };
+    let bits = Bits::from_be_bytes(set.try_into().ok()?);
+    Some(Offer {
+        channel: *channel,
+        handles: members(bits),
+    })
+}
+
+/// The sends that stand in no bracket, where the nodes are one tree.
+fn sends(root: Place, nodes: &[Vec<u8>]) -> Option<Vec<SendNode>> {
     let mut sends = Vec::new();
     let mut open = vec![root];
-    for frame in frames {
+    for frame in nodes {
         let place = open.pop()?;
-        match frame?[..] {
+        match frame[..] {
             [0x10] => {}
             [0x11 | 0x18] | [0x17, _, _] => open.push(place),
             [0x12, subject, object] => {
@@ -88,10 +138,18 @@ mod tests {
     use super::*;
     use Marker::{Binder, Channel};
 
+    fn outside(lines: &[&str]) -> Option<FromOutside> {
+        from_outside((lines.join("\n") + "\n").as_bytes())
+    }
+
     fn sends(lines: &[&str]) -> Option<Vec<(Marker, Marker)>> {
-        let sends = sends_outside((lines.join("\n") + "\n").as_bytes())?;
-        let pairs = sends.into_iter().map(|send| (send.subject, send.object));
-        Some(pairs.collect())
+        let sends = outside(lines)?.sends.into_iter();
+        Some(sends.map(|send| (send.subject, send.object)).collect())
+    }
+
+    fn offers(lines: &[&str]) -> Option<Vec<(u8, Vec<u8>)>> {
+        let offers = outside(lines)?.offers.into_iter();
+        Some(offers.map(|offer| (offer.channel, offer.handles)).collect())
     }
 
     #[test]
@@ -143,7 +201,28 @@ mod tests {
     }
 
     #[test]
-    fn what_is_no_plan_has_no_sends() {
+    fn offers_stand_between_the_free_names_and_the_tree() {
+        let plan = [
+            "010120000002",
+            "020011",
+            "02031d",
+            "030580000001",
+            "031100002100",
+            "120003",
+            "10",
+        ];
+        assert_eq!(
+            offers(&plan),
+            Some(vec![(5, vec![0, 31]), (17, vec![8, 13])])
+        );
+        assert_eq!(sends(&plan), Some(vec![(Channel(17), Channel(29))]));
+        let nameless = ["010120000000", "031100000020", "10"];
+        assert_eq!(offers(&nameless), Some(vec![(17, vec![5])]));
+        assert_eq!(offers(&["010101000000", "10"]), Some(Vec::new()));
+    }
+
+    #[test]
+    fn what_is_no_plan_has_nothing_outside() {
         for lines in [
             &["010101000000"][..],
             &["010101000000", "10", "10"],
@@ -153,9 +232,19 @@ mod tests {
             &["010101000000", "1a", "10"],
             &["010101000000", "17", "10"],
             &["010101000000", "1G"],
+            &["010101000000", "030000000001"],
+            &["010101000000", "10", "030000000001"],
+            &["010101000000", "11", "030000000001", "10"],
+            &["010101000001", "030000000001", "020000", "10"],
+            &["010101000001", "030000000001", "10"],
+            &["010101000000", "0300000001", "10"],
+            &["010101000000", "03000000000001", "10"],
+            &["010101000000", "03", "10"],
+            &["010101000000", "030000000001", "020000", "10"],
+            &["030000000001", "010101000000", "10"],
             &[""],
         ] {
-            assert_eq!(sends(lines), None, "{lines:?}");
+            assert_eq!(outside(lines), None, "{lines:?}");
         }
     }
 }

@@ -3,10 +3,10 @@
 use crate::outside::{receivers, sent, Pair};
 use crate::refusal::{Account, Place};
 use crate::sheet::{Breach, Sets, OUTSIDE};
-use crate::tree::SendNode;
+use crate::tree::FromOutside;
 
-/// The sentences after a clear sheet, for a plan with these sends in no bracket.
-pub fn clear(sends: &[SendNode], sets: &Sets) -> Vec<String> {
+/// The sentences after a clear sheet, for a plan that has this outside every desk.
+pub fn clear(outside: &FromOutside, sets: &Sets) -> Vec<String> {
     let mut sentences = vec![
         "Yes: no level may send anything on a channel where a lower level may receive it."
             .to_owned(),
@@ -16,12 +16,12 @@ pub fn clear(sends: &[SendNode], sets: &Sets) -> Vec<String> {
             "Nothing is ever sent in this plan: the answer says no more than that.".to_owned(),
         );
     }
-    let from_outside = sent(sends, sets);
-    if !from_outside.is_empty() {
+    let pairs = sent(outside, sets);
+    if !pairs.is_empty() {
         sentences
             .push("The answer does not speak of what is sent from outside every desk.".to_owned());
     }
-    sentences.extend(from_outside.into_iter().map(|pair| from(pair, sets)));
+    sentences.extend(pairs.into_iter().map(|pair| from(pair, sets)));
     sentences
 }
 
@@ -121,6 +121,32 @@ fn levels(levels: &[u8]) -> String {
 #[cfg(test)]
 mod tests {
     use super::*;
+    use crate::sheet::{parse, Sheet};
+    use crate::tree::Offer;
+
+    #[test]
+    fn what_is_offered_is_said_without_any_send() {
+        let output = "2f0003\n200000000020\n21021100000020\n21071100000020\n22071100000120\n\
+                      3001\nflow clear\n";
+        let Some(Sheet::Clear(sets)) = parse(output.as_bytes()) else {
+            panic!("no clear sheet");
+        };
+        let outside = FromOutside {
+            offers: vec![Offer {
+                channel: 17,
+                handles: vec![5, 8],
+            }],
+            sends: Vec::new(),
+        };
+        assert_eq!(
+            clear(&outside, &sets)[1..],
+            [
+                "The answer does not speak of what is sent from outside every desk.",
+                "From outside, handle 5 may be sent on channel 17, where level 2 may receive it.",
+                "From outside, handle 8 may be sent on channel 17, where no level may receive it.",
+            ]
+        );
+    }
 
     #[test]
     fn a_handle_is_said_to_reach_a_level_or_the_relay() {
