@@ -71,6 +71,8 @@ promises 'A line 23llhhcc, in hexadecimal digits, says that level ll may receive
 promises 'There is one for each level and each handle that it may receive on any channel, by level, then by handle; the last level is the outermost, 07.'
 promises 'Behind them stands the line `reach complete`.'
 promises 'A text that hjaltropa_sheet refuses within the same allowance is refused here by the same two lines, 3fnnllll and `refused`.'
+promises 'The digits of a refusal are hexadecimal like the others: 3f100002 is refusal 16 at line 2, and 3f0a0102 is refusal 10 at line 258.'
+promises 'The outside, 07, ranks with none of them: that an offer of the plan comes in is no breach, and that a level hands it down to a lower one is.'
 
 quietly rt staticlib gateway
 library=target/staticlib/libgateway.a
@@ -162,9 +164,14 @@ parallel() {
         parallel $(($1 - 1))
     fi
 }
-# P1 with zeros behind it, so many bytes in all.
+# plan_and_zeros NAME PLAN BYTES: the plan with zeros behind it, so many bytes in all.
 plan_and_zeros() {
-    { cat "$work/P1.plan" && printf "%0$(($2 - 16))d" 0; } >"$work/$1.plan"
+    { cat "$work/$2.plan" && printf "%0$(($3 - $(wc -c <"$work/$2.plan")))d" 0; } >"$work/$1.plan"
+}
+# A branch of so many nodes that receives over and over.
+branch() {
+    each 0 $(($1 - 2)) '130020%02x'
+    echo 10
 }
 plan P1 010101000000 10
 plan P2 010102010102 020000 020101 15 1901 120001 10 1900 13000200 10
@@ -176,6 +183,20 @@ plan P6 010103040203 020000 020101 020202 18 15 1900 120001 120001 120102 10 15 
 printf '010101000000\n10' >"$work/unended.plan"
 plan closed 010101000000 10 10
 cp examples/keeps.plan examples/breaks.plan second/tests/plans/relay.plan "$work"
+# The relay of examples/breaks.plan with the household as a part of it, which sends a handle of its own and waits for the answer; and the same where
+# the handle is not passed on.
+plan household 010105030104 020000 020101 020303 020404 15 160202 120002 120103 13020702 10 15 1901 18 13000500 120105 120504 10 1900 18 \
+    13010601 10
+grep -vx 120105 "$work/household.plan" >"$work/kept_household.plan"
+# Offers: one that nobody takes; and one that level 5 receives on a channel and hands down to level 3 on another, all numbers different.
+plan untaken 010101000000 030000000001 10
+plan handed_down 010120020602 020011 020109 031120000000 15 1905 13000200 120102 10 1903 13010301 10
+# Offers of nothing: alone, and the last of 32 behind 64 free names. Then one past the limits, one out of order, and one in the tree.
+plan nothing 010101000000 030000000000 10
+{ echo 010120000040 && each 0 63 '02%02x00' && each 0 30 '03%02xffffffff' && echo 031f00000000 && echo 10; } >"$work/last_nothing.plan"
+plan past 010102000000 030000000001 030100000004 10
+plan falling 010102000000 030100000001 030000000000 10
+plan late 010101000000 11 030000000001 10
 # Every set non-empty, and a breach: no sheet is longer. All channels are sent on channel 0, all binders receive there, and each level sends and
 # receives on what the last of them got.
 {
@@ -194,17 +215,45 @@ cp examples/keeps.plan examples/breaks.plan second/tests/plans/relay.plan "$work
     each 0 5 '15\n19%02x\n122020\n13202100\n10'
     each 6 6 '19%02x\n122020\n13202100\n10'
 } >"$work/longest.plan"
-# The deepest readings: 64 free names, and trees of depth 32 and 33.
+# The most and the largest offers: every channel on every channel, with nobody to take them; and so that the sheet is the longest again, without a
+# send outside every level.
+{ echo 010120000000 && each 0 31 '03%02xffffffff' && echo 10; } >"$work/all_offers.plan"
+{
+    echo 010120200620
+    each 0 31 '02%02x%02x'
+    each 0 31 '03%02xffffffff'
+    echo 15
+    each 0 15 '130020%02x'
+    echo 10
+    each 16 31 '130020%02x'
+    each 0 5 '15\n19%02x\n122020\n13202100\n10'
+    each 6 6 '19%02x\n122020\n13202100\n10'
+} >"$work/longest_offers.plan"
+# The deepest readings: 64 free names, without offers and with 32, and trees of depth 32 and 33.
 { echo 010101000040 && each 0 63 '02%02x00'; } >"$work/names.plan"
+{ echo 010120200640 && each 0 31 '02%02x%02x' && each 32 63 '02%02x00' && each 0 31 '03%02xffffffff'; } >"$work/offers.plan"
 { cat "$work/names.plan" && each 1 31 11 && echo 10; } >"$work/deep.plan"
 { cat "$work/names.plan" && each 1 32 15 && echo 10; } >"$work/deeper.plan"
+{ cat "$work/offers.plan" && each 1 31 11 && echo 10; } >"$work/deep_offers.plan"
+{ cat "$work/offers.plan" && each 1 32 15 && echo 10; } >"$work/deeper_offers.plan"
+# The largest plan: 64 free names, 32 offers, and 256 nodes of which as many receive as can within depth 32, on nine branches.
+{
+    cat "$work/offers.plan"
+    for part in fork fork fork 29 29 fork 29 29 fork fork 29 29 fork 29 fork 22 23; do
+        if [ $part = fork ]; then echo 15; else branch $part; fi
+    done
+} >"$work/largest.plan"
 { echo 010101000000 && echo 11 && parallel 8; } >"$work/most_nodes.plan"
 { echo 010101000000 && echo 11 && echo 11 && parallel 8; } >"$work/more_nodes.plan"
-plan_and_zeros longest_text 16384
-plan_and_zeros longer_text 16385
-plan_and_zeros long_text 100000
-answered='P1 P2 P6 differing keeps breaks relay longest deep most_nodes'
+plan_and_zeros longest_text P1 16384
+plan_and_zeros longer_text P1 16385
+plan_and_zeros long_text P1 100000
+plan_and_zeros longest_offering largest 16384
+plan_and_zeros longer_offering largest 16385
+answered='P1 P2 P6 differing keeps breaks household kept_household relay longest deep most_nodes'
+answered="$answered untaken handed_down all_offers longest_offers deep_offers largest"
 refused='P10 unended closed names deeper more_nodes longest_text longer_text long_text'
+refused="$refused nothing last_nothing past falling late offers deeper_offers longest_offering longer_offering"
 
 # The second program's sheets are those that are known, and the plans are what they are meant to be.
 for name in $answered $refused; do
@@ -221,6 +270,8 @@ first P1 2f0001
 first P2 2f0004
 first P6 2f000a
 first relay 2f0c01
+first untaken 2f0002
+first all_offers 2f0002
 first P10 3f010000
 first unended 3f020002
 first closed 3f0d0003
@@ -230,7 +281,20 @@ first more_nodes 3f0a0102
 first longest_text 3f0d0003
 first longer_text 3f010000
 first long_text 3f010000
-same 'the length of the longest sheet' "$(wc -c <"$work/longest.sheet" | tr -d ' ')" "$(declared SHEET)"
+first nothing 3f100002
+first last_nothing 3f100061
+first past 3f070003
+first falling 3f080003
+first late 3f030003
+first offers 3f0c0062
+first deeper_offers 3f0b0082
+first longest_offering 3f0d0162
+first longer_offering 3f010000
+same 'the length of the largest plan' "$(wc -c <"$work/largest.plan" | tr -d ' ')" 3079
+same 'its nodes' "$(grep -c '^1' "$work/largest.plan")" 256
+for name in longest longest_offers; do
+    same "the length of the sheet of $name" "$(wc -c <"$work/$name.sheet" | tr -d ' ')" "$(declared SHEET)"
+done
 
 # reach_of SHEET: the reach sheet that goes with a sheet. A level may receive the handles of its in sets, and of the lines that have one the first
 # has the smallest channel.
@@ -263,9 +327,20 @@ reaches P1 'reach complete'
 reaches P2 23000100 23070100 'reach complete'
 reaches P6 23010100 23020001 23020100 23020201 23070001 23070100 23070201 'reach complete'
 reaches differing 23031d11 23071d11 'reach complete'
-reaches breaks 23000201 23000301 23010200 23070200 23070301 23070402 'reach complete'
+reaches household 23000201 23000301 23010200 23070200 23070301 23070402 'reach complete'
+reaches kept_household 23000301 23010200 23070200 23070301 23070402 'reach complete'
+reaches breaks 23000201 23000301 23010200 23070200 23070301 'reach complete'
+reaches keeps 23000301 23010200 23070200 23070301 'reach complete'
 reaches relay $(each 0 31 '2307%02x00') 'reach complete'
-reaches longest $(for level in 0 1 2 3 4 5 6 7; do each 0 31 "230$level%02x00"; done) 'reach complete'
+for name in longest longest_offers; do
+    reaches $name $(for level in 0 1 2 3 4 5 6 7; do each 0 31 "230$level%02x00"; done) 'reach complete'
+done
+reaches untaken 'reach complete'
+reaches all_offers 'reach complete'
+reaches handed_down 23031d09 23051d11 23071d09 'reach complete'
+reaches largest $(each 0 31 '2307%02x00') 'reach complete'
+reaches nothing 3f100002 refused
+reaches last_nothing 3f100061 refused
 reaches closed 3f0d0003 refused
 reaches P10 3f010000 refused
 
@@ -304,7 +379,11 @@ reads() {
 }
 reads P1 'no level may send a handle on a channel where a lower level may receive it'
 reads differing 'level 5 may send handle 29 on channel 17, where level 3, which is lower, may receive it'
+reads handed_down 'level 5 may send handle 29 on channel 9, where level 3, which is lower, may receive it'
+reads untaken 'no level may send a handle on a channel where a lower level may receive it'
 reads deeper 'there is no verdict: refusal 11 at line 98, which is 0 where no line is at fault'
+reads nothing 'there is no verdict: refusal 16 at line 2, which is 0 where no line is at fault'
+reads last_nothing 'there is no verdict: refusal 16 at line 97, which is 0 where no line is at fault'
 reads P10 'there is no verdict: refusal 1 at line 0, which is 0 where no line is at fault'
 
 # wants sheet|reach NAME [ALLOWANCE]: writes what has to be printed for the plan to a file.
@@ -402,6 +481,14 @@ asks() {
 asks 0 'flow clear' examples/keeps.plan
 asks 1 'flow breach: level 1 may send handle 2 on channel 1, where level 0 may receive it' - <examples/breaks.plan
 { head -n 3 examples/keeps.plan && sleep 1 && tail -n +4 examples/keeps.plan; } | asks 0 'flow clear'
+asks 1 'flow breach: level 1 may send handle 2 on channel 1, where level 0 may receive it' "$work/household.plan"
+asks 0 'flow clear' "$work/kept_household.plan"
+asks 0 'flow clear' "$work/all_offers.plan"
+asks 1 'flow breach: level 5 may send handle 29 on channel 9, where level 3 may receive it' "$work/handed_down.plan"
+asks 2 'refused: number 16, line 2' - <"$work/nothing.plan"
+asks 2 'refused: number 16, line 97' "$work/last_nothing.plan"
+asks 2 'refused: number 10, line 258' "$work/more_nodes.plan"
+asks 2 'refused: number 13, line 354' "$work/longest_offering.plan"
 asks 2 'refused: number 11, line 98' "$work/deeper.plan"
 asks 2 'refused: number 13, line 3' "$work/longest_text.plan"
 asks 2 'refused: number 1, line 0' "$work/longer_text.plan"
@@ -495,7 +582,7 @@ build faulty_in_c examples/gateway.c "$work/faults.o" $wraps
     -C link-arg="$library" -C link-arg=$wraps
 faults=0
 for gateway in $gateways; do
-    for name in P2 longest; do
+    for name in P2 longest handed_down; do
         for fault in none before behind outside short unwritten cut byte over allowance; do
             words=
             [ $fault != allowance ] || words=1
@@ -518,7 +605,7 @@ done
 
 # Ask takes nothing else for a verdict than what it knows.
 build faulty_ask examples/ask.c "$work/faults.o" $wraps
-for name in P1 differing P10; do
+for name in P1 differing P10 handed_down nothing; do
     status=0
     FAULT=byte ./run "$work/faulty_ask" "$work/$name.plan" >"$work/out" 2>"$work/err" || status=$?
     same "the status of ask without a sheet, $name" $status 3
@@ -591,9 +678,9 @@ if [ "$machine" = x86_64 ]; then
 fi
 
 # Fewer than this, and a part of these tests has got lost. Whoever adds to them raises it.
-sheets_least=210 verdicts_least=47 faults_least=40
-[ "$machine" != x86_64 ] || sheets_least=420 faults_least=100
-[ "$cpp" = 'not tried' ] || verdicts_least=66
+sheets_least=396 verdicts_least=89 faults_least=60
+[ "$machine" != x86_64 ] || sheets_least=792 faults_least=140
+[ "$cpp" = 'not tried' ] || verdicts_least=125
 [ $asked -ge $sheets_least ] && [ $verdicts -ge $verdicts_least ] && [ $faults -ge $faults_least ] ||
     fail "only $asked of $sheets_least sheets, $verdicts of $verdicts_least verdicts and $faults of $faults_least faults were tried"
 
