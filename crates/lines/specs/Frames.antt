@@ -1,4 +1,5 @@
--- Document 01, 'Plan text' and 'Refusal numbers', and document 02's order 1: the sections of a text, the table of frames, and the frame on a line (12, 2, 3, 4).
+-- Document 01, 'Plan text' and 'Refusal numbers', and document 02's order 1: the sections of a text, the table of frames, and the frame on a line (12,
+-- 2, 3, 4).
 -- Assumes nothing.
 use Prim.Native.Nat.{ℕ}
 use mathlib.Core.Bool.{Bool, cond, _||_}

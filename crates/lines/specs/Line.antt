@@ -1,5 +1,5 @@
--- Document 01, 'Refusal numbers', and document 02's order 1: what the next line says as the head's, a free name's, an offer's or a node's: its frame first (12, 2, 3, 4), room and
--- depth for a node (10, 11), then the rule of its frame.
+-- Document 01, 'Refusal numbers', and document 02's order 1: what the next line says as the head's, a free name's, an offer's or a node's: its frame
+-- first (12, 2, 3, 4), room and depth for a node (10, 11), then the rule of its frame.
 -- Assumes nothing.
 use Prim.Native.Nat.{ℕ}
 use mathlib.Core.Bool.{cond}

@@ -1,4 +1,5 @@
--- Document 01, 'Refusal numbers', and document 02's order 1: the rule of each frame over its bytes: the head (5, 6), a free name (7, 8), an offer (7, 8, 16), a node (7, 9).
+-- Document 01, 'Refusal numbers', and document 02's order 1: the rule of each frame over its bytes: the head (5, 6), a free name (7, 8), an offer
+-- (7, 8, 16), a node (7, 9).
 -- Assumes nothing.
 use Prim.Native.Nat.{ℕ}
 use mathlib.Core.Bool.{Bool, true, false, cond, not, _||_}

@@ -28,7 +28,8 @@ use Rattle.reading.specs.declared.names.Names.{Names}
 use Rattle.reading.specs.declared.offers.Offers.{Offers}
 use Rattle.reading.specs.declared.tree.State.{State}
 use Rattle.reading.specs.Tree.{listing}
-use Rattle.reading.specs.Plan.{Outcome, refused, read, Place, Named, readNames, Offered, readOffers, Grown, readTree, Plan, closed, afterHead, readPlan, wrongLength, planIn, padded, noName, slot, noRefusal, laying, offerRow, readingOf}
+use Rattle.reading.specs.Plan.{Outcome, refused, read, Place, Named, readNames, Offered, readOffers, Grown, readTree, Plan}
+use Rattle.reading.specs.Plan.{closed, afterHead, readPlan, wrongLength, planIn, padded, noName, slot, noRefusal, laying, offerRow, readingOf}
 use Rattle.reading.specs.Promise.{PlanWithin}
 use Rattle.reading.specs.inner.Working.{StandsIn, placeAt, Past, FreshNames, Gathered, Gathers, FreshOffers, Laid, Lays, FreshState, Grew, Grows}
 use Rattle.reading.proofs.Growing.{onward-past, true-not-false}

@@ -1,4 +1,5 @@
--- Document 01, 'Plan text' and 'Refusal numbers', and document 02's order 1: from a text to a plan or its one refusal, line by line in order; what one line says is the crate `lines`.
+-- Document 01, 'Plan text' and 'Refusal numbers', and document 02's order 1: from a text to a plan or its one refusal, line by line in order; what one
+-- line says is the crate `lines`.
 -- Assumes nothing.
 use Prim.Native.Nat.{ℕ, zero, suc, _+_, _-_}
 use mathlib.Core.Bool.{Bool, cond, _||_}
