@@ -10,9 +10,10 @@ use crate::records;
 use crate::sheet::sheet;
 use crate::solving::AMPLE_ROUNDS;
 use crate::vectors::vectors;
+use crate::words;
 
 const USAGE: &str =
-    "use: second sheet [ALLOWANCE] | reach [ALLOWANCE] | batch | records COUNT SEED | vectors | fuzz COUNT SEED PROGRAM [WORD ..]";
+    "use: second sheet [ALLOWANCE] | reach [ALLOWANCE] | words [ALLOWANCE] | batch | records COUNT SEED | vectors | fuzz COUNT SEED PROGRAM [WORD ..]";
 
 /// Runs the command that the words name. False means that sheets differed; an
 /// error is one line for the user, and nothing but a failed write or a failed
@@ -31,6 +32,9 @@ pub fn run(
         ["reach", ref allowance @ ..] if allowance.len() < 2 => {
             print_sheet(reach, rounds(allowance)?, input, &mut output)?
         }
+        ["words", ref allowance @ ..] if allowance.len() < 2 => {
+            print_sheet(words::words, rounds(allowance)?, input, &mut output)?
+        }
         ["batch"] => print_batch(input, &mut output)?,
         ["records", count, seed] => {
             let (count, seed) = (number(count, u64::MAX)?, number(seed, u64::MAX)?);
@@ -47,23 +51,22 @@ pub fn run(
     Ok(same)
 }
 
-/// Prints the sheet, of one kind or the other, of the text on the input.
-fn print_sheet(
-    kind: fn(&[u8], u16) -> String,
+/// Prints the sheet, of one kind or another, of the text on the input.
+fn print_sheet<Sheet: AsRef<[u8]>>(
+    kind: fn(&[u8], u16) -> Sheet,
     allowance: u16,
     input: &mut impl Read,
     output: &mut impl Write,
 ) -> Result<bool, String> {
     let sheet = kind(&read_all(input)?, allowance);
-    output.write_all(sheet.as_bytes()).map_err(cannot_write)?;
+    output.write_all(sheet.as_ref()).map_err(cannot_write)?;
     Ok(true)
 }
 
 /// Prints the answers to all records on the input, if every record is good.
 fn print_batch(input: &mut impl Read, output: &mut impl Write) -> Result<bool, String> {
     for record in records::parse(&read_all(input)?)? {
-        let answer = answer(&record);
-        output.write_all(answer.as_bytes()).map_err(cannot_write)?;
+        output.write_all(&answer(&record)).map_err(cannot_write)?;
     }
     Ok(true)
 }

@@ -1,10 +1,10 @@
 //! Damaging a good plan's frames: numbers at and past their limits, wrong
 //! frames, names without meaning, too many nodes, too great a depth. What is
-//! peculiar to offers has its own file.
+//! peculiar to offers has its own file, and so has what is peculiar to labels.
 
 use crate::chance::Chance;
 use crate::making::Frames;
-use crate::offering::first_node;
+use crate::places::first_node;
 use crate::reading::{DEEPEST, HIGHEST_NAME, MOST_NODES};
 
 /// What a byte after a frame's first byte stands for.
@@ -19,6 +19,7 @@ enum Number {
     Channel,
     Binder,
     Level,
+    Kind,
 }
 
 /// Damages the frames of a good plan in one way; some ways go only as far as a
@@ -31,8 +32,8 @@ pub fn damage_frames(frames: &mut Frames, chance: &mut Chance) {
         6 => {
             let place = chance.below(frames.len());
             frames[place][0] = chance.one_of(&[
-                0x00, 0x01, 0x02, 0x03, 0x04, 0x0f, 0x10, 0x11, 0x12, 0x13, 0x14, 0x15, 0x16, 0x17,
-                0x18, 0x19, 0x1a, 0xff,
+                0x00, 0x01, 0x02, 0x03, 0x04, 0x05, 0x0f, 0x10, 0x11, 0x12, 0x13, 0x14, 0x15, 0x16,
+                0x17, 0x18, 0x19, 0x1a, 0xff,
             ]);
         }
         7 => {
@@ -82,25 +83,30 @@ fn at_limit(number: Number, head: &[u8], chance: &mut Chance) -> u8 {
         Number::Name => chance.one_of(&[0, HIGHEST_NAME, HIGHEST_NAME + 1, 255, any]),
         Number::Channel => chance.one_of(&[0, head[2] - 1, head[2], 255]),
         Number::Binder => chance.one_of(&[0, head[3].wrapping_sub(1), head[3], 255]),
-        Number::Level => chance.one_of(&[0, head[4], head[4] + 1, 7, 255]),
+        Number::Level => chance.one_of(&[0, head[4], head[4] + 1, 7, 8, 255]),
+        Number::Kind => chance.one_of(&[0, 1, 2, 3, 255]),
     }
 }
 
-/// What the numbers of a good plan's frame stand for, in order; a set is none.
+/// What the numbers of a good plan's frame stand for, in order; a set and the
+/// bytes of a label are none.
 fn numbers(frame: &[u8]) -> &'static [Number] {
-    match frame[0] {
-        0x01 => &[
+    match *frame {
+        [0x01, ..] => &[
             Number::Edition,
             Number::Channels,
             Number::Binders,
             Number::HighestLevel,
             Number::FreeNames,
         ],
-        0x02 | 0x16 => &[Number::Name, Number::Channel],
-        0x03 => &[Number::Channel],
-        0x12 | 0x17 => &[Number::Name, Number::Name],
-        0x13 => &[Number::Name, Number::Name, Number::Binder],
-        0x19 => &[Number::Level],
+        [0x02 | 0x16, ..] => &[Number::Name, Number::Channel],
+        [0x03, ..] => &[Number::Channel],
+        [0x04, 0x00, ..] => &[Number::Kind, Number::Channel],
+        [0x04, 0x01, ..] => &[Number::Kind, Number::Binder],
+        [0x04, ..] => &[Number::Kind, Number::Level],
+        [0x12 | 0x17, ..] => &[Number::Name, Number::Name],
+        [0x13, ..] => &[Number::Name, Number::Name, Number::Binder],
+        [0x19, ..] => &[Number::Level],
         _ => &[],
     }
 }
@@ -177,7 +183,7 @@ fn stand_at_the_corner(frames: &mut Frames, chance: &mut Chance) {
     frames.push(vec![0x15]);
     add_bush(frames, before - 1 - steps);
     frames.extend(vec![vec![0x11]; steps]);
-    let last: [&[u8]; 11] = [
+    let last: [&[u8]; 12] = [
         &[0x10],
         &[0x10],
         &[0x12, 64, 64],
@@ -189,6 +195,7 @@ fn stand_at_the_corner(frames: &mut Frames, chance: &mut Chance) {
         &[0x1a],
         &[0x02, 0, 0],
         &[0x03, 0, 0, 0, 0, 1],
+        &[0x04, 0, 0, 0x61],
     ];
     frames.push(chance.one_of(&last).to_vec());
 }

@@ -3,20 +3,21 @@
 
 use crate::chance::Chance;
 use crate::making::Frames;
-use crate::offering::{draw_set, first_node, make_offers, offer_frame};
+use crate::offering::{draw_set, make_offers, offer_frame};
+use crate::places::{first_label, first_node, first_offer};
 
 /// Damages one offer of a good plan in one way or in two; a plan with few offers
 /// gets others first. A lone offer has no order to be turned round, and where C
 /// is 32 no set is past its limit: such a plan may stay good.
 pub fn damage_offers(frames: &mut Frames, chance: &mut Chance) {
     let channels = frames[0][2];
-    let first_offer = 1 + usize::from(frames[0][5]);
+    let first_offer = first_offer(frames);
     let wanted = chance.between(1, usize::from(channels.min(3)));
-    if first_node(frames) - first_offer < wanted {
+    if first_label(frames) - first_offer < wanted {
         let offers = make_offers(wanted, channels, chance);
-        frames.splice(first_offer..first_node(frames), offers);
+        frames.splice(first_offer..first_label(frames), offers);
     }
-    let place = chance.between(first_offer, first_node(frames) - 1);
+    let place = chance.between(first_offer, first_label(frames) - 1);
     match chance.below(26) {
         0..=1 => exceed_channel(&mut frames[place], channels, chance),
         2..=3 => exceed_set(&mut frames[place], channels, chance),
@@ -94,14 +95,15 @@ fn put_higher_before(frames: &mut Frames, place: usize, chance: &mut Chance) {
     frames.insert(place, offer_frame(higher, draw_set(channels, chance)));
 }
 
-/// A frame that may not stand among the offers, of its right length or not.
+/// A frame that may stand neither among the offers nor right after them, of the
+/// length it has elsewhere or not; some first bytes are those of no frame.
 fn frame_of_another_place(chance: &mut Chance) -> Vec<u8> {
     let frames: [&[u8]; 6] = [
         &[0x01, 1, 1, 0, 0, 0],
         &[0x02, 63, 0],
         &[0x02],
-        &[0x04, 0, 0, 0x61],
         &[0x05, 0, 0],
+        &[0x0f],
         &[0x1a, 0, 0, 0, 1, 0],
     ];
     chance.one_of(&frames).to_vec()

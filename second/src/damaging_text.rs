@@ -26,7 +26,7 @@ pub fn damage_lines(lines: &mut Vec<Vec<u8>>, chance: &mut Chance) {
         }
         7 => lines.truncate(place),
         8 => {
-            let ending: [&[u8]; 9] = [
+            let ending: [&[u8]; 10] = [
                 b"10\n",
                 b"11\n",
                 b"10",
@@ -36,6 +36,7 @@ pub fn damage_lines(lines: &mut Vec<Vec<u8>>, chance: &mut Chance) {
                 b"zz\n",
                 b"020000\n",
                 b"030000000001\n",
+                b"04000061\n",
             ];
             lines.push(chance.one_of(&ending).to_vec());
         }

@@ -1,6 +1,7 @@
 //! Frames: the bytes of one line, told apart by first byte and length, and the
 //! line that carries given bytes. The numbers in a frame are not judged here.
 
+use crate::labels::LONGEST_LABEL;
 use crate::plan::{Head, Set};
 
 /// A node's frame, its numbers as they stand in the line.
@@ -18,12 +19,24 @@ pub enum NodeFrame {
     Bracket { level: u8 },
 }
 
-/// A frame that may stand after the free names: an offer, or the root, which
-/// ends the offers.
+/// A frame that may stand after the offers: a label, or the root, which ends the
+/// labels.
 #[derive(Clone, Debug, PartialEq, Eq)]
-pub enum OfferOrRoot {
-    Offer { channel: u8, offered: Set },
+pub enum LabelOrRoot {
+    Label {
+        kind: u8,
+        number: u8,
+        label: Vec<u8>,
+    },
     Root(NodeFrame),
+}
+
+/// A frame that may stand after the free names: an offer, or a frame that ends
+/// the offers.
+#[derive(Clone, Debug, PartialEq, Eq)]
+pub enum OfferOrAfter {
+    Offer { channel: u8, offered: Set },
+    After(LabelOrRoot),
 }
 
 /// The edition and the head's numbers, or refusal number 3 or 4.
@@ -52,15 +65,30 @@ pub fn free_name_frame(bytes: &[u8]) -> Result<(u8, u8), u8> {
     }
 }
 
-/// An offer or the root's frame, or refusal number 3 or 4.
-pub fn offer_or_root_frame(bytes: &[u8]) -> Result<OfferOrRoot, u8> {
+/// An offer, a label or the root's frame, or refusal number 3 or 4.
+pub fn offer_or_after_frame(bytes: &[u8]) -> Result<OfferOrAfter, u8> {
     match *bytes {
-        [0x03, channel, first, second, third, fourth] => Ok(OfferOrRoot::Offer {
+        [0x03, channel, first, second, third, fourth] => Ok(OfferOrAfter::Offer {
             channel,
             offered: set([first, second, third, fourth]),
         }),
         [0x03, ..] => Err(4),
-        _ => node_frame(bytes).map(OfferOrRoot::Root),
+        _ => label_or_root_frame(bytes).map(OfferOrAfter::After),
+    }
+}
+
+/// A label or the root's frame, or refusal number 3 or 4.
+pub fn label_or_root_frame(bytes: &[u8]) -> Result<LabelOrRoot, u8> {
+    match *bytes {
+        [0x04, kind, number, ref label @ ..] if (1..=LONGEST_LABEL).contains(&label.len()) => {
+            Ok(LabelOrRoot::Label {
+                kind,
+                number,
+                label: label.to_vec(),
+            })
+        }
+        [0x04, ..] => Err(4),
+        _ => node_frame(bytes).map(LabelOrRoot::Root),
     }
 }
 

@@ -1,5 +1,5 @@
-//! Fuzzing: another program's answers to random records, each a sheet and its
-//! reach sheet, compared with the answers that this one gives.
+//! Fuzzing: another program's answers to random records, each a sheet, its reach
+//! sheet and its word sheet, compared with the answers that this one gives.
 
 use std::io::{self, Read, Write};
 use std::process::{Child, ChildStdin, ChildStdout, Command, Stdio};
@@ -40,7 +40,7 @@ pub fn fuzz(
             .map_err(|error| format!("cannot run {}: {error}", command.join(" ")))?;
         for (record, got) in records.iter().zip(split_answers(&printed, records.len())) {
             let expected = answer(record);
-            if got == expected.as_bytes() {
+            if got == expected {
                 tally.same += 1;
                 continue;
             }
@@ -122,17 +122,24 @@ fn split_answers(printed: &[u8], count: usize) -> Vec<&[u8]> {
     answers
 }
 
-/// The length of the first answer, a sheet and the reach sheet behind it.
+/// The length of the first answer: a sheet, the reach sheet behind it and the word
+/// sheet behind both, which is the next line whatever it says.
 fn first_answer_length(printed: &[u8]) -> usize {
     let sheet = length_to(&sheet::LAST_LINES, printed);
-    sheet + length_to(&reach::LAST_LINES, &printed[sheet..])
+    let both = sheet + length_to(&reach::LAST_LINES, &printed[sheet..]);
+    both + lines(&printed[both..]).next().map_or(0, <[u8]>::len)
+}
+
+/// The lines of what was printed, each with its line feed if it has one.
+fn lines(printed: &[u8]) -> impl Iterator<Item = &[u8]> {
+    printed.split_inclusive(|byte| *byte == b'\n')
 }
 
 /// The length up to the end of the first line that is one of the phrases, or of
 /// all if none is.
 fn length_to(phrases: &[&str], printed: &[u8]) -> usize {
     let mut length = 0;
-    for line in printed.split_inclusive(|byte| *byte == b'\n') {
+    for line in lines(printed) {
         length += line.len();
         let last = phrases
             .iter()
@@ -148,7 +155,7 @@ fn length_to(phrases: &[&str], printed: &[u8]) -> usize {
 fn show(
     number: u64,
     record: &Record,
-    expected: &str,
+    expected: &[u8],
     got: &[u8],
     output: &mut impl Write,
 ) -> io::Result<()> {
@@ -156,7 +163,7 @@ fn show(
     writeln!(output, "record {number} differs")?;
     writeln!(output, "text, {length} bytes, allowance {allowance}:")?;
     writeln!(output, "{}", readable(&record.text))?;
-    writeln!(output, "expected sheets:\n{expected}")?;
+    writeln!(output, "expected sheets:\n{}", readable(expected))?;
     writeln!(output, "got sheets:\n{}", readable(got))
 }
 

@@ -1,11 +1,13 @@
-//! Making: random good plans of many shapes and sizes, with offers and without,
-//! in which every used name has a meaning and few channels are shared by many
-//! nodes, so that what is sent is often received.
+//! Making: random good plans of many shapes and sizes, with offers and labels and
+//! without, in which every used name has a meaning and few channels are shared by
+//! many nodes, so that what is sent is often received.
 
 use std::collections::BTreeSet;
 
 use crate::chance::Chance;
+use crate::making_labels::draw_labels;
 use crate::offering::{draw_count, make_offers};
+use crate::places::first_node;
 use crate::plan::Head;
 use crate::reading::{DEEPEST, HIGHEST_NAME, MOST_NODES};
 use crate::relays::make_relay;
@@ -13,11 +15,24 @@ use crate::relays::make_relay;
 /// The frames of a plan in text order, each as its bytes.
 pub type Frames = Vec<Vec<u8>>;
 
+/// How many nodes a plan gets for a breach that is put beside its tree.
+const SENDING_DOWN: usize = 8;
+
 /// The frames of a random good plan.
 pub fn make_plan(chance: &mut Chance) -> Frames {
-    if chance.percent(4) {
-        return make_relay(chance);
-    }
+    let mut frames = if chance.percent(4) {
+        make_relay(chance)
+    } else {
+        make_unlabelled(chance)
+    };
+    let labels = draw_labels(&head_of(&frames), chance);
+    let place = first_node(&frames);
+    frames.splice(place..place, labels);
+    frames
+}
+
+/// The frames of a random good plan without labels.
+fn make_unlabelled(chance: &mut Chance) -> Frames {
     let head = make_head(chance);
     let mut frames = vec![head_frame(&head)];
     let names = free_names(chance, head.free_names);
@@ -38,7 +53,12 @@ pub fn make_plan(chance: &mut Chance) -> Frames {
         chance,
         frames,
     };
-    maker.grow(&names, 1, nodes);
+    if maker.chance.percent(20) && maker.can_send_down(&names, nodes) {
+        maker.send_down(&names);
+        maker.grow(&names, 2, nodes - SENDING_DOWN);
+    } else {
+        maker.grow(&names, 1, nodes);
+    }
     maker.frames
 }
 
@@ -52,6 +72,17 @@ pub fn head_frame(head: &Head) -> Vec<u8> {
         head.highest_level,
         head.free_names,
     ]
+}
+
+/// The head of a good plan's frames.
+pub fn head_of(frames: &[Vec<u8>]) -> Head {
+    let head = &frames[0];
+    Head {
+        channels: head[2],
+        binders: head[3],
+        highest_level: head[4],
+        free_names: head[5],
+    }
 }
 
 /// A head whose numbers are mostly small and at times as large as allowed.
@@ -102,6 +133,27 @@ struct Maker<'a> {
 }
 
 impl Maker<'_> {
+    /// Whether a plan of so many nodes has what a breach beside its tree takes.
+    fn can_send_down(&self, names: &[u8], nodes: usize) -> bool {
+        let levels = self.head.highest_level > 0;
+        levels && self.head.binders > 0 && !names.is_empty() && nodes > SENDING_DOWN
+    }
+
+    /// Adds a desk that sends and a lower one that receives on the same channel,
+    /// and the node above both that has the plan's tree for its other branch.
+    fn send_down(&mut self, names: &[u8]) {
+        let high = 1 + self.chance.byte_below(self.head.highest_level);
+        let low = self.chance.byte_below(high);
+        let [x, y] = [self.chance.one_of(names), self.chance.one_of(names)];
+        let received = self.given_name(names);
+        let binder = self.chance.byte_below(self.head.binders);
+        self.frames.extend([vec![0x15], vec![0x15]]);
+        self.frames
+            .extend([vec![0x19, high], vec![0x12, x, y], vec![0x10]]);
+        self.frames
+            .extend([vec![0x19, low], vec![0x13, x, received, binder], vec![0x10]]);
+    }
+
     /// Adds a tree of at most so many nodes; the names given have a meaning
     /// there, the newest last.
     fn grow(&mut self, names: &[u8], depth: usize, nodes: usize) {

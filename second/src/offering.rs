@@ -53,10 +53,3 @@ pub fn draw_set(channels: u8, chance: &mut Chance) -> u32 {
         _ => all,
     }
 }
-
-/// The place of the first node among the frames of a good plan, which is also
-/// the place after its last offer.
-pub fn first_node(frames: &[Vec<u8>]) -> usize {
-    let nodes = frames.iter().filter(|frame| frame[0] >= 0x10).count();
-    frames.len() - nodes
-}

@@ -1,8 +1,10 @@
 //! The plan as reading hands it over: the head's numbers, the offers of the
-//! outside and the tree of nodes, in which every used name is already replaced
-//! by its marker.
+//! outside, the labels and the tree of nodes, in which every used name is already
+//! replaced by its marker.
 
 use std::collections::{BTreeMap, BTreeSet};
+
+use crate::labels::Labels;
 
 /// The level number of the outermost label, # in the source analysis.
 pub const OUTERMOST: u8 = 7;
@@ -75,5 +77,6 @@ pub enum Node {
 pub struct Plan {
     pub head: Head,
     pub offers: Offers,
+    pub labels: Labels,
     pub root: Node,
 }

@@ -4,7 +4,8 @@
 use std::collections::BTreeMap;
 use std::vec::IntoIter;
 
-use crate::frames::{self, NodeFrame, OfferOrRoot};
+use crate::frames::{self, LabelOrRoot, NodeFrame, OfferOrAfter};
+use crate::labels::{may_stand_in_a_label, thing, Labels};
 use crate::plan::{Head, Marker, Node, Offers, Plan};
 
 /// The longest text, in bytes.
@@ -34,7 +35,7 @@ struct Reader<'a> {
     nodes: usize,
 }
 
-/// The plan that a text carries, or its refusal (1 to 13, or 16).
+/// The plan that a text carries, or its refusal (1 to 13, or 16 to 18).
 pub fn read(text: &[u8]) -> Result<Plan, Refusal> {
     if text.is_empty() || text.len() > LONGEST_TEXT {
         return Err(Refusal { number: 1, line: 0 });
@@ -47,10 +48,16 @@ pub fn read(text: &[u8]) -> Result<Plan, Refusal> {
     };
     let head = reader.head()?;
     let scope = reader.free_names(&head)?;
-    let (offers, root_frame) = reader.offers(&head)?;
+    let (offers, after) = reader.offers(&head)?;
+    let (labels, root_frame) = reader.labels(after, &head)?;
     let root = reader.node(root_frame, &head, &scope, 1)?;
     reader.end()?;
-    Ok(Plan { head, offers, root })
+    Ok(Plan {
+        head,
+        offers,
+        labels,
+        root,
+    })
 }
 
 impl Reader<'_> {
@@ -104,14 +111,14 @@ impl Reader<'_> {
         Ok(scope)
     }
 
-    /// Takes the offers and the root's frame, which ends them; judges 7, 8, 16 at
-    /// each offer.
-    fn offers(&mut self, head: &Head) -> Result<(Offers, NodeFrame), Refusal> {
+    /// Takes the offers and the frame that ends them; judges 7, 8, 16 at each
+    /// offer.
+    fn offers(&mut self, head: &Head) -> Result<(Offers, LabelOrRoot), Refusal> {
         let mut offers = Offers::new();
         loop {
-            let (channel, offered) = match self.frame(frames::offer_or_root_frame)? {
-                OfferOrRoot::Offer { channel, offered } => (channel, offered),
-                OfferOrRoot::Root(frame) => return Ok((offers, frame)),
+            let (channel, offered) = match self.frame(frames::offer_or_after_frame)? {
+                OfferOrAfter::Offer { channel, offered } => (channel, offered),
+                OfferOrAfter::After(frame) => return Ok((offers, frame)),
             };
             let within_limits =
                 channel < head.channels && offered.iter().all(|handle| *handle < head.channels);
@@ -120,6 +127,33 @@ impl Reader<'_> {
             self.demand(ascending, 8)?;
             self.demand(!offered.is_empty(), 16)?;
             offers.insert(channel, offered);
+        }
+    }
+
+    /// Takes the labels, from the given frame on, and the root's frame, which ends
+    /// them; judges 7, 8, 17, 18 at each label.
+    fn labels(&mut self, first: LabelOrRoot, head: &Head) -> Result<(Labels, NodeFrame), Refusal> {
+        let mut labels = Labels::new();
+        let mut frame = first;
+        loop {
+            let (kind, number, label) = match frame {
+                LabelOrRoot::Label {
+                    kind,
+                    number,
+                    label,
+                } => (kind, number, label),
+                LabelOrRoot::Root(frame) => return Ok((labels, frame)),
+            };
+            let labelled = thing(kind, number, head).ok_or(self.refusal(7))?;
+            let ascending = labels.keys().all(|earlier| *earlier < labelled);
+            self.demand(ascending, 8)?;
+            self.demand(may_stand_in_a_label(&label), 17)?;
+            let repeated = labels
+                .iter()
+                .any(|(earlier, other)| earlier.kind == labelled.kind && *other == label);
+            self.demand(!repeated, 18)?;
+            labels.insert(labelled, label);
+            frame = self.frame(frames::label_or_root_frame)?;
         }
     }
 

@@ -15,7 +15,7 @@ pub const LAST_LINES: [&str; 3] = [CLEAR, BREACH, REFUSED];
 
 const CLEAR: &str = "flow clear";
 const BREACH: &str = "flow breach";
-/// The phrase of a refusal, on the reach sheet too.
+/// The phrase of a refusal, on the reach sheet and the word sheet too.
 pub const REFUSED: &str = "refused";
 
 /// The sheet of a text under an allowance of rounds.

@@ -1,13 +1,17 @@
 //! Vectors: the records that are stored beside the product's batch program,
-//! with this program's answers to them.
+//! with this program's answers to them. Those about labels have their own files.
 
 use crate::drawing::Drawing;
 use crate::reading::{read, LONGEST_TEXT};
-use crate::records::Record;
+use crate::records::{Record, LONGEST_RECORD_TEXT};
 use crate::solving::{solve, AMPLE_ROUNDS};
+use crate::vectors_of_labels::{labelled_breaches, labelled_plans};
+use crate::vectors_of_words::{all_labels, shown_labels};
 
-/// How many random records the vectors have, and the seed that gives them.
+/// How many random records the vectors have, the length in bytes that the text of
+/// none exceeds, and the seed that gives them.
 const RANDOM_RECORDS: usize = 3_000;
+const LONGEST_RANDOM_TEXT: usize = 2_048;
 const SEED: u64 = 2026;
 
 /// The plan of 251 nodes that takes 3,073 rounds.
@@ -117,19 +121,21 @@ const OFFERING: &[&str] = &[
     "010101000000 10 030000000001",
     "010101000000 030000000001 020000 10",
     "010101000000 030000000001 010101000000 10",
-    "010101000000 030000000001 04000061 10",
+    "010101000000 030000000001 05 10",
+    "010101000000 030000000001 0f 10",
 ];
 
 /// Every record of the vectors: the known plans, those chosen for their reach
-/// sheets or their offers and the edges, each answered one under the allowances
-/// around its count too, then the random ones.
+/// sheets, their offers or their labels and the edges, each answered one under the
+/// allowances around its count too; the plans that differ only in their labels
+/// under the ample allowance; then the random ones.
 pub fn vectors() -> Vec<Record> {
     let known = KNOWN.iter().chain(REACHING).chain(OFFERING);
-    let texts = known.map(|words| text(words)).chain(edges()).chain([
-        longest_reach(),
-        all_offers(),
-        RELAY.to_vec(),
-    ]);
+    let texts = known
+        .map(|words| text(words))
+        .chain(labelled_plans())
+        .chain(edges())
+        .chain([longest_reach(), all_offers(), RELAY.to_vec()]);
     let around = texts.flat_map(|text| {
         let allowances = allowances(&text);
         allowances.into_iter().map(move |allowance| Record {
@@ -137,9 +143,17 @@ pub fn vectors() -> Vec<Record> {
             allowance,
         })
     });
-    around
-        .chain(Drawing::new(SEED).take(RANDOM_RECORDS))
-        .collect()
+    let labelled = labelled_breaches()
+        .into_iter()
+        .chain(shown_labels())
+        .chain([all_labels()])
+        .map(|text| Record {
+            text,
+            allowance: AMPLE_ROUNDS,
+        });
+    let short = |record: &Record| record.text.len() <= LONGEST_RANDOM_TEXT;
+    let random = Drawing::new(SEED).filter(short).take(RANDOM_RECORDS);
+    around.chain(labelled).chain(random).collect()
 }
 
 /// The edges that are long, or no lines of words.
@@ -151,6 +165,8 @@ fn edges() -> Vec<Vec<u8>> {
     longest.resize(LONGEST_TEXT, b'z');
     let mut longer = longest.clone();
     longer.push(b'\n');
+    let mut longest_of_a_record = longest.clone();
+    longest_of_a_record.resize(LONGEST_RECORD_TEXT, b'z');
     vec![
         Vec::new(),
         b"\n".to_vec(),
@@ -164,6 +180,7 @@ fn edges() -> Vec<Vec<u8>> {
         text(&format!("{head}{steps} 11 10")),
         longest,
         longer,
+        longest_of_a_record,
     ]
 }
 

@@ -13,6 +13,7 @@ const SECOND: &str = env!("CARGO_BIN_EXE_second");
 const NIL: &[u8] = b"010101000000\n10\n";
 const NIL_SHEET: &str = "2f0001\n3001\nflow clear\n";
 const NIL_REACH: &str = "reach complete\n";
+const NIL_WORDS: &str = "clear\n";
 
 /// Held while a process starts or a script is written: a script that a starting
 /// process still holds open for writing can't be run.
@@ -69,14 +70,18 @@ fn script(name: &str, body: &str) -> String {
     path.to_str().expect("a plain path").to_string()
 }
 
-/// Writes a script that prints, in the place of each answer, what a statement of
-/// awk prints of its `sheet` and its `reach`; `n` is the record's number from 1.
+/// Writes a script that changes each answer's `sheet`, `reach` and `words` by a
+/// statement of awk and prints them; `n` is the record's number from 1.
 fn fake(name: &str, statement: &str) -> String {
-    let body = r#"SECOND batch | awk '
+    let body = r#"SECOND batch | LC_ALL=C awk '
         { lines = lines $0 "\n" }
+        behind == 2 {
+            n++; words = lines; STATEMENT; printf "%s%s%s", sheet, reach, words
+            behind = 0; lines = ""; next
+        }
         /^(flow clear|flow breach|reach complete|refused)$/ {
-            if (behind) { n++; reach = lines; STATEMENT } else { sheet = lines }
-            behind = !behind; lines = ""
+            if (behind++) { reach = lines } else { sheet = lines }
+            lines = ""
         }'"#;
     script(name, &body.replace("STATEMENT", statement))
 }
@@ -117,7 +122,25 @@ fn reach_prints_the_reach_sheet() {
 }
 
 #[test]
-fn batch_prints_both_sheets_of_each_record_in_order() {
+fn words_prints_the_word_sheet() {
+    prints(&["words"], NIL, NIL_WORDS);
+    prints(&["words", "1"], NIL, NIL_WORDS);
+    prints(&["words", "65535"], NIL, NIL_WORDS);
+    prints(&["words", "0"], NIL, "refused\n");
+    prints(&["words"], b"", "refused\n");
+    prints(&["words"], &vec![0; 100_000], "refused\n");
+
+    let lines = "010102010102 020000 020101 040000e6b0b4 040201c389 \
+                 15 1901 120001 10 1900 13000200 10 ";
+    let down = lines.split_whitespace().collect::<Vec<&str>>().join("\n") + "\n";
+    let words = "breach É to level 0 on 水: channel 1\n";
+    prints(&["words"], down.as_bytes(), words);
+    prints(&["words", "4"], down.as_bytes(), words);
+    prints(&["words", "3"], down.as_bytes(), "refused\n");
+}
+
+#[test]
+fn batch_prints_all_sheets_of_each_record_in_order() {
     let first = [b"0000001000004401\n", NIL].concat();
     let second = [b"0000001000000000\n", NIL].concat();
     let third = b"0000000000000001\n".to_vec();
@@ -126,17 +149,22 @@ fn batch_prints_both_sheets_of_each_record_in_order() {
     let sheets = [
         NIL_SHEET,
         NIL_REACH,
+        NIL_WORDS,
         "3f0e0000\nrefused\n",
         "3f0e0000\nrefused\n",
+        "refused\n",
         "3f010000\nrefused\n",
         "3f010000\nrefused\n",
+        "refused\n",
         "3f020001\nrefused\n",
         "3f020001\nrefused\n",
+        "refused\n",
     ];
     prints(&["batch"], &all, &sheets.concat());
     prints(&["batch"], b"", "");
     let longest = [b"0001000000000001\n".to_vec(), vec![b'0'; 65_536]].concat();
-    prints(&["batch"], &longest, &"3f010000\nrefused\n".repeat(2));
+    let refused = "3f010000\nrefused\n".repeat(2) + "refused\n";
+    prints(&["batch"], &longest, &refused);
 }
 
 #[test]
@@ -180,13 +208,16 @@ fn batch_answers_every_record_that_records_writes() {
     let printed = String::from_utf8_lossy(&answer.stdout).into_owned();
     let count = |phrase: &str| printed.lines().filter(|line| *line == phrase).count();
     let answered = count("flow clear") + count("flow breach");
+    let in_words = printed.lines().filter(|line| line.starts_with("breach "));
     assert_eq!(count("reach complete"), answered);
-    assert_eq!(count("refused"), 2 * (500 - answered));
+    assert_eq!(count("clear"), count("flow clear"));
+    assert_eq!(in_words.count(), count("flow breach"));
+    assert_eq!(count("refused"), 3 * (500 - answered));
 }
 
 #[test]
 fn bad_words_are_refused() {
-    let bad: [&[&str]; 26] = [
+    let bad: [&[&str]; 33] = [
         &[],
         &[""],
         &["sheets"],
@@ -204,6 +235,13 @@ fn bad_words_are_refused() {
         &["reach", "+1"],
         &["reach", "65536"],
         &["reach", "1", "2"],
+        &["word"],
+        &["words", ""],
+        &["words", "x"],
+        &["words", "-1"],
+        &["words", "+1"],
+        &["words", "65536"],
+        &["words", "1", "2"],
         &["batch", "1"],
         &["records"],
         &["records", "1"],
@@ -237,7 +275,7 @@ fn fuzz_agrees_with_a_right_program() {
 #[test]
 fn fuzz_shows_what_a_wrong_program_gives() {
     let wrong = script("wrong", "SECOND batch | sed 's/^2f0001$/2f0002/'");
-    let (last, status, printed) = fuzz("200", &[&wrong]);
+    let (last, status, printed) = fuzz("500", &[&wrong]);
     assert!(!last.ends_with(" 0 different"), "{last}");
     assert!(printed.contains("expected sheets:\n2f0001\n"));
     assert!(printed.contains("got sheets:\n2f0002\n"));
@@ -247,7 +285,7 @@ fn fuzz_shows_what_a_wrong_program_gives() {
 
 #[test]
 fn fuzz_shows_reach_sheets_that_differ() {
-    let right = fake("right-reach", r#"printf "%s%s", sheet, reach"#);
+    let right = fake("right-reach", "reach = reach");
     let (last, status, _) = fuzz("200", &[&right]);
     assert_eq!(last, "200 same, 0 different");
     assert_eq!(status, Some(0));
@@ -274,12 +312,51 @@ fn fuzz_shows_reach_sheets_that_differ() {
         r#"sheet = reach"#,
     ];
     for (number, change) in changes.iter().enumerate() {
-        let statement = format!(r#"{change}; printf "%s%s", sheet, reach"#);
-        let wrong = fake(&format!("wrong-reach-{number}"), &statement);
+        let wrong = fake(&format!("wrong-reach-{number}"), change);
         let (last, status, _) = fuzz("200", &[&wrong]);
         assert!(!last.ends_with(" 0 different"), "{change}: {last}");
         assert_eq!(status, Some(1), "{change}");
     }
+}
+
+#[test]
+fn fuzz_shows_word_sheets_that_differ() {
+    // Another phrase, a character more or less, another thing named, another
+    // character in a label, another order of the sheets, and a sheet in the place
+    // of another.
+    let changes = [
+        r#"sub(/^clear/, "Clear", words)"#,
+        r#"sub(/^clear/, "refused", words)"#,
+        r#"sub(/^refused/, "clear", words)"#,
+        r#"sub(/^breach .*/, "clear", words)"#,
+        r#"sub(/: /, ":", words)"#,
+        r#"sub(/\n/, " \n", words)"#,
+        r#"sub(/\n/, "\r\n", words)"#,
+        r#"sub(/\n/, "", words)"#,
+        r#"sub(/level 1/, "level 2", words)"#,
+        r#"sub(/channel 0/, "channel 00", words)"#,
+        r#"sub(/[\300-\377][\200-\277]*/, "?", words)"#,
+        r#"mine = words; words = reach; reach = mine"#,
+        r#"mine = words; words = before; before = mine"#,
+        r#"words = sheet"#,
+        r#"words = reach"#,
+    ];
+    for (number, change) in changes.iter().enumerate() {
+        let wrong = fake(&format!("wrong-words-{number}"), change);
+        let (last, status, _) = fuzz("200", &[&wrong]);
+        assert!(!last.ends_with(" 0 different"), "{change}: {last}");
+        assert_eq!(status, Some(1), "{change}");
+    }
+}
+
+/// The word sheet is the line behind the reach sheet, whatever that line says.
+#[test]
+fn fuzz_finds_the_next_answer_behind_any_word_sheet() {
+    let wrong = fake("one-wrong", r#"if (n == 50) { words = "flow clear\n" }"#);
+    let (last, status, printed) = fuzz("100", &[&wrong]);
+    assert_eq!(last, "99 same, 1 different");
+    assert!(printed.starts_with("record 50 differs\n"));
+    assert_eq!(status, Some(1));
 }
 
 /// Of every record, of one that is answered, of one that is refused, and of the
@@ -297,10 +374,12 @@ fn fuzz_shows_sheets_that_are_missing_or_doubled() {
         "reach = reach reach",
         r#"sheet = """#,
         "sheet = sheet sheet",
+        r#"words = """#,
+        "words = words words",
     ];
     for (place, chosen) in chosen.iter().enumerate() {
         for (kind, change) in changes.iter().enumerate() {
-            let statement = format!(r#"if ({chosen}) {{ {change} }}; printf "%s%s", sheet, reach"#);
+            let statement = format!("if ({chosen}) {{ {change} }}");
             let wrong = fake(&format!("uneven-{place}-{kind}"), &statement);
             let (last, status, _) = fuzz("200", &[&wrong]);
             assert!(!last.ends_with(" 0 different"), "{statement}: {last}");
@@ -310,11 +389,16 @@ fn fuzz_shows_sheets_that_are_missing_or_doubled() {
 }
 
 /// What is left of a run belongs to its last record, behind which no other shows
-/// that its reach sheet is missing or doubled.
+/// that its last sheets are missing or doubled.
 #[test]
-fn fuzz_judges_the_last_reach_sheet_of_a_run() {
-    for (name, change) in [("none", r#""""#), ("twice", "reach reach")] {
-        let statement = format!(r#"printf "%s%s", sheet, n == 100 ? {change} : reach"#);
+fn fuzz_judges_the_last_sheets_of_a_run() {
+    for (name, change) in [
+        ("no-reach", r#"reach = """#),
+        ("reach-twice", "reach = reach reach"),
+        ("no-words", r#"words = """#),
+        ("words-twice", "words = words words"),
+    ] {
+        let statement = format!("if (n == 100) {{ {change} }}");
         let wrong = fake(&format!("last-{name}"), &statement);
         let (last, status, printed) = fuzz("100", &[&wrong]);
         assert_eq!(last, "99 same, 1 different", "{name}");
@@ -330,7 +414,7 @@ fn fuzz_copes_with_programs_that_break_off_or_print_nonsense() {
     assert_eq!(last, "0 same, 2500 different");
     assert_eq!(status, Some(1));
 
-    let short = script("short", "SECOND batch | sed '/^reach complete$/q'");
+    let short = script("short", "SECOND batch | sed '/^clear$/q'");
     let (last, status, _) = fuzz("100", &[&short]);
     assert!(!last.ends_with(" 0 different"), "{last}");
     assert!(!last.starts_with("0 same"), "{last}");

@@ -256,7 +256,7 @@ fn offers_stand_between_the_free_names_and_the_tree() {
     refused(&format!("010101000000 10 {offer}"), "3f0d0003");
     refused("010101000001 03", "3f030002");
     refused("010101000000 11 03", "3f030003");
-    for first in ["00", "01", "02", "04", "0f", "1a", "ff"] {
+    for first in ["00", "01", "02", "05", "0f", "1a", "ff"] {
         refused(&format!("010101000000 {offer} {first}"), "3f030003");
     }
 }

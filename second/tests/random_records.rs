@@ -1,5 +1,5 @@
 //! The random records: repeatable, of every kind, and never too much for the
-//! program.
+//! program. Their labels have their own file.
 
 use std::collections::{BTreeMap, BTreeSet};
 
@@ -7,7 +7,7 @@ use second::chance::Chance;
 use second::drawing::Drawing;
 use second::frames::{decode, encode};
 use second::making::make_plan;
-use second::offering::first_node;
+use second::places::first_node;
 use second::reading::read;
 use second::records::{parse, write, Record};
 use second::sheet::{sheet, LAST_LINES, LONGEST_SHEET};
@@ -46,7 +46,7 @@ fn records_reach_every_refusal_and_every_last_line() {
         last_lines.insert(sheet.lines().last().expect("a last line").to_string());
     }
     let numbers: Vec<u8> = refusals.keys().copied().collect();
-    assert_eq!(numbers, (1..=14).chain([16]).collect::<Vec<u8>>());
+    assert_eq!(numbers, (1..=14).chain(16..=18).collect::<Vec<u8>>());
     assert!(refusals.values().all(|count| *count > 80), "{refusals:?}");
     assert_eq!(last_lines, LAST_LINES.map(str::to_string).into());
 }

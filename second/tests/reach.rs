@@ -256,7 +256,7 @@ fn reach_sheets_follow_from_the_in_sets_of_the_sheets() {
         let reach = reach(&record.text, record.allowance);
         let sheet = sheet(&record.text, record.allowance);
         assert_eq!(reach, from_sheet(&sheet), "{:?}", record.text);
-        assert_eq!(answer, sheet + &reach);
+        assert!(answer.starts_with((sheet + &reach).as_bytes()));
         assert!(reach.len() <= LONGEST_REACH && answer.len() <= LONGEST_ANSWER);
         lines += reach.lines().count() - 1;
         let last = reach.lines().last().expect("a last line").to_string();

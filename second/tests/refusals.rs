@@ -1,5 +1,6 @@
 //! Every refusal of the reading, with its line, and the order in which a line's
-//! faults are judged. The limits have their own file, and so have the offers.
+//! faults are judged. The limits have their own file, and so have the offers and
+//! the labels.
 
 mod common;
 
@@ -51,7 +52,7 @@ fn first_byte_that_is_not_allowed() {
     refused(&text("010101000000 010101000000"), "3f030002");
     refused(&text("010101000001 020000 020100 10"), "3f030003");
     refused(&text("010101000000 11 020000"), "3f030003");
-    for first in ["00", "04", "0f", "1a", "20", "2f", "ff"] {
+    for first in ["00", "05", "0f", "1a", "20", "2f", "ff"] {
         refused(&text(&format!("010101000000 {first}")), "3f030002");
     }
 }

@@ -1,16 +1,21 @@
 //! The vectors that are stored beside the product's batch program are those
 //! that this program makes, and they reach every refusal and every last line,
-//! every level, handle and channel of reach sheets, and the longest of these.
+//! every level, handle and channel of reach sheets, labels of every length, and
+//! the longest reach sheet and word sheet.
 
 use std::collections::BTreeSet;
 use std::fs;
 use std::path::PathBuf;
 
 use second::answer::answer;
+use second::judging::first_breach;
+use second::labels::{shown, Kind, Thing};
+use second::outcome::outcome;
 use second::reach::{reach, LONGEST_REACH};
 use second::records;
 use second::sheet::sheet;
 use second::vectors::vectors;
+use second::words::{words_of, LONGEST_WORDS};
 
 /// The bytes of a file of the product's batch program.
 fn stored(name: &str) -> Vec<u8> {
@@ -22,14 +27,14 @@ fn stored(name: &str) -> Vec<u8> {
 #[test]
 fn stored_records_and_answers_are_the_ones_made_here() {
     let mut made = Vec::new();
-    let mut answers = String::new();
+    let mut answers = Vec::new();
     for record in vectors() {
         records::write(&record, &mut made).expect("a vector takes all bytes");
-        answers += &answer(&record);
+        answers.extend(answer(&record));
     }
     assert!(made == stored("stdin"), "crates/batch/stdin is another");
     assert!(
-        answers.as_bytes() == stored("stdout"),
+        answers == stored("stdout"),
         "crates/batch/stdout is another"
     );
 }
@@ -47,7 +52,7 @@ fn vectors_reach_every_refusal_and_every_last_line() {
         }
         phrases.extend(sheet.lines().last().map(str::to_string));
     }
-    assert_eq!(refusals, (1..=14).chain([16]).collect());
+    assert_eq!(refusals, (1..=14).chain(16..=18).collect());
     assert_eq!(phrases.len(), 3);
 }
 
@@ -72,4 +77,41 @@ fn vectors_reach_every_level_handle_and_channel() {
         assert!(frames.any(|line| line.ends_with(&ending)), "{ending}");
     }
     assert_eq!(lengths.last(), Some(&LONGEST_REACH));
+}
+
+/// Every length of a label is shown whole or cut, for every thing that a breach
+/// names, cut labels end at every place that a character leaves, and the longest
+/// word sheet is among the answers.
+#[test]
+fn vectors_show_labels_of_every_length() {
+    let mut longest = 0;
+    let mut lengths = BTreeSet::new();
+    let mut cuts = BTreeSet::new();
+    for record in vectors() {
+        let outcome = outcome(&record.text, record.allowance);
+        longest = longest.max(words_of(&outcome).len());
+        let Ok(solved) = outcome else {
+            continue;
+        };
+        let Some(breach) = first_breach(&solved.head, &solved.solution) else {
+            continue;
+        };
+        let named = [
+            (Kind::Level, breach.high),
+            (Kind::Level, breach.low),
+            (Kind::Channel, breach.channel),
+            (Kind::Channel, breach.object),
+        ];
+        for (place, (kind, number)) in named.into_iter().enumerate() {
+            if let Some(label) = solved.labels.get(&Thing { kind, number }) {
+                lengths.insert((place, label.len()));
+                cuts.extend((label.len() > 24).then_some((place, shown(label).len())));
+            }
+        }
+    }
+    for place in 0..4 {
+        assert!((1..=60).all(|length| lengths.contains(&(place, length))));
+        assert!((21..=24).all(|length| cuts.contains(&(place, length))));
+    }
+    assert_eq!(longest, LONGEST_WORDS);
 }
