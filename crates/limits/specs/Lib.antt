@@ -1,2 +1,2 @@
--- Document 01's limits.
+-- The limits of documents 01 and 02.
 pub mod Limits

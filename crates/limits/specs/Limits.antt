@@ -1,4 +1,4 @@
--- Document 01, 'Plan text': the limits, each named once, and the sizes that follow from them.
+-- Document 01, 'Plan text', and document 02's order 2: the limits, each named once, and the sizes that follow from them.
 -- Assumes nothing.
 use Prim.Native.Nat.{ℕ, _+_, _*_}
 
@@ -49,3 +49,15 @@ placeOf level channel = level * mostChannels + channel
 -- the sets of such a row: 256
 abbrev pub levelSets : ℕ
 levelSets = levels * mostChannels
+
+-- the things that may have a label: a channel, a binder or a level each
+abbrev pub mostLabels : ℕ
+mostLabels = mostChannels + mostBinders + levels
+
+-- the longest label, in bytes
+abbrev pub longestLabel : ℕ
+longestLabel = 60
+
+-- the longest shortened label, in bytes
+abbrev pub longestShort : ℕ
+longestShort = 24

@@ -1,4 +1,4 @@
-// Document 01's limits, each named once, and the sizes that follow from them.
+// The limits of documents 01 and 02, each named once, and the sizes that follow from them.
 
 // The longest text, in bytes.
 pub const LONGEST: usize = 16384;
@@ -27,3 +27,10 @@ pub const BINDER_SETS: usize = MOST_BINDERS as usize;
 pub const CHANNEL_SETS: usize = MOST_CHANNELS as usize;
 // The sets of a row with one for each level and channel, those of a level side by side.
 pub const LEVEL_SETS: usize = LEVELS as usize * CHANNEL_SETS;
+
+// The things that may have a label: a channel, a binder or a level each.
+pub const MOST_LABELS: usize = CHANNEL_SETS + BINDER_SETS + LEVELS as usize;
+// The longest label, in bytes.
+pub const LONGEST_LABEL: usize = 60;
+// The longest shortened label, in bytes.
+pub const LONGEST_SHORT: usize = 24;
