@@ -1,5 +1,6 @@
--- The contracts of the public operations fix the outcome. Those of `first_head`, `next_name`, `next_offer`, `next_node` and `line_end` are
--- equations; those of `no_names`, `give` and `enter` say what each name means in an array of 256 places, and two such arrays that mean the same are equal.
+-- The contracts of the public operations fix the outcome. Those of `first_head`, `next_name`, `next_offer`, `next_label`, `next_node`, `place_among` and
+-- `no_label` are equations; those of `no_names`, `give` and `enter` say what each name means in an array of 256 places, and two such arrays that mean the
+-- same are equal.
 -- Assumes nothing.
 use mathlib.Core.Path.{_≡_, ap}
 use mathlib.Core.List.{List}

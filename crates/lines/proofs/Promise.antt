@@ -1,5 +1,5 @@
 -- The promise of a line, for every text: what is judged of the lines that are left and of the line at a position, the case of an answer, and how
--- scopes stay within the limits. Nothing else of this crate's proofs is cited by the crates above, but for Lists and Tests.
+-- scopes stay within the limits. Nothing else of this crate's proofs is cited by the crates above, but for Things.
 -- Assumes nothing.
 use Prim.Native.Nat.{ℕ, _<_}
 use mathlib.Core.Path.{_≡_, refl, sym, subst}
@@ -7,10 +7,10 @@ use mathlib.Core.Bool.{Bool, true, false, cond}
 use mathlib.Core.List.{List, [], _∷_, List·Memᴰ·head, List·Memᴰ·tail}
 use native.Mathlib.Omega.{arith}
 use lib.Dec.{leb, eqb}
-use lib.ListN.{length}
 use borrow.Author.Tests.{leb-false, eqb-false}
 use Rattle.lines.specs.declared.FreeName.{FreeName}
 use Rattle.lines.specs.declared.Head.{Head}
+use Rattle.lines.specs.declared.Label.{Label}
 use Rattle.lines.specs.declared.Marker.{Marker}
 use Rattle.lines.specs.declared.Marker.the-variants.{Channel, Binder}
 use Rattle.lines.specs.declared.Node.{Node}
@@ -19,50 +19,46 @@ use Rattle.lines.specs.declared.Node.the-variants.{Nil, Silent, Send, Re
 use Rattle.lines.specs.declared.frames.Span.{Span}
 use Rattle.lines.specs.declared.scope.Meaning.the-variants.{Is}
 use Rattle.limits.specs.Limits.{mostNodes}
-use Rattle.lines.specs.Text.{Line}
-use Rattle.lines.specs.Frames.{firstLine, freeNames, offerLines, treeLines, only, toTree, Next, Judged, faulty, fine, andOn, byte, frameOf, frameIn}
+use Rattle.text.specs.Text.{Line, byte}
+use Rattle.text.specs.Positions.{restAt}
+use Rattle.lines.specs.Frames.{firstLine, freeNames, offerLines, labelLines, treeLines, only, toTree, Next, Judged, faulty, fine, andOn, frameOf, frameIn}
 use Rattle.lines.specs.Scope.{Scope, noNames, giving, inside}
 use Rattle.lines.specs.Rules.{headIn, nameIn, offerIn, nodeIn}
-use Rattle.lines.specs.Line.{firstHead, nextName, nextOffer, nextNode}
-use Rattle.lines.specs.Values.{restAt}
-use Rattle.lines.specs.Promise.{Gives, OnLine, LineWhole, NodeFits, HeadWithin, NameWithin, NextWithin, MarkerWithin, NodeWithin, IsGiven, enclosed, ScopeWithin, NodeGood, NodeNext}
+use Rattle.lines.specs.Labels.{labelIn}
+use Rattle.lines.specs.Line.{firstHead, nextName, nextOffer, nextLabel, nextNode}
+use Rattle.lines.specs.Promise.{Gives, OnLine, LineWhole, NodeFits, HeadWithin, NameWithin, OfferWithin, LabelWithin, NextWithin, MarkerWithin, NodeWithin, IsGiven, enclosed, ScopeWithin, NodeGood, NodeNext}
 use Rattle.lines.proofs.Table.{framing}
-use Rattle.lines.proofs.RulesWithin.{gives-cond, gives-on, gives-more, some-line, head-within, name-within, next-within, node-within}
-pub use Rattle.lines.proofs.Lines.{rest-split, rest-none}
-pub use Rattle.lines.proofs.Cases.{opening-faulty, opening-found, entry-faulty, entry-found, offering-faulty, offering-found, offering-over, step-faulty, step-found}
+use Rattle.lines.proofs.RulesWithin.{gives-cond, gives-more, on-line, head-within, name-within, next-offer-within, next-label-within, node-within}
+pub use Rattle.text.proofs.Lines.{rest-split, rest-none}
+pub use Rattle.lines.proofs.Cases.{opening-faulty, opening-found, entry-faulty, entry-found, offering-faulty, offering-found, offering-over, labelling-faulty, labelling-found, labelling-over, step-faulty, step-found}
 
 -- ---- the next line, where some are left
 
 module _ (left : List Line) where
   pub head-given : Gives (OnLine left HeadWithin) (firstHead left)
   unfolding firstHead
-  head-given =
-      gives-on (λ (frame : List ℕ). 0 < length left) (OnLine left HeadWithin) (frameIn (only firstLine) left) headIn (some-line (only firstLine) left)
-      (λ frame some. gives-more HeadWithin (0 < length left) some (headIn frame) (head-within (byte 1 frame) _))
+  head-given = on-line left HeadWithin (only firstLine) headIn (λ frame row. head-within (byte 1 frame) _)
 
   pub name-given : (h : Head) (least : ℕ) → Gives (OnLine left (NameWithin h least)) (nextName h least left)
   unfolding nextName
   name-given h least =
-      gives-on (λ (frame : List ℕ). 0 < length left) (OnLine left (NameWithin h least)) (frameIn (only freeNames) left) (nameIn h least)
-      (some-line (only freeNames) left)
-      (λ frame some. gives-more (NameWithin h least) (0 < length left) some (nameIn h least frame) (name-within h least (byte 1 frame) (byte 2 frame)))
+      on-line left (NameWithin h least) (only freeNames) (nameIn h least) (λ frame row. name-within h least (byte 1 frame) (byte 2 frame))
 
-  pub offer-given : (h : Head) (least : ℕ) → Gives (OnLine left (NextWithin h least)) (nextOffer h least left)
+  pub offer-given : (h : Head) (least : ℕ) → Gives (OnLine left (NextWithin (OfferWithin h least))) (nextOffer h least left)
   unfolding nextOffer
   offer-given h least =
-      gives-on (λ (frame : List ℕ). 0 < length left) (OnLine left (NextWithin h least)) (frameIn (toTree offerLines) left) (offerIn h least)
-      (some-line (toTree offerLines) left)
-      (λ frame some. gives-more (NextWithin h least) (0 < length left) some (offerIn h least frame) (next-within (own frame) h least frame))
-    where
-      own : List ℕ → Bool
-      own frame = eqb (frameOf (byte 0 frame) .section) offerLines
+      on-line left (NextWithin (OfferWithin h least)) (toTree offerLines) (offerIn h least)
+      (λ frame row. next-offer-within (eqb (frameOf (byte 0 frame) .section) offerLines) h least frame)
+
+  pub label-given : (h : Head) (least : ℕ) → Gives (OnLine left (NextWithin (LabelWithin h least))) (nextLabel h least left)
+  unfolding nextLabel
+  label-given h least =
+      on-line left (NextWithin (LabelWithin h least)) (toTree labelLines) (labelIn h least) (λ frame row. next-label-within _ h least frame row refl)
 
   pub node-given : (h : Head) (given : List Marker) (scope : Scope) (depth count : ℕ) → ScopeWithin h given scope
       → Gives (OnLine left (NodeNext h given count)) (nextNode depth h scope count left)
   unfolding nextNode
-  node-given h given scope depth count within =
-      gives-on (λ (frame : List ℕ). 0 < length left) (OnLine left (NodeNext h given count)) (frameIn (only treeLines) left) judge
-      (some-line (only treeLines) left) (λ frame some. gives-more (NodeNext h given count) (0 < length left) some (judge frame) (judged frame))
+  node-given h given scope depth count within = on-line left (NodeNext h given count) (only treeLines) judge (λ frame row. judged frame)
     where
       judge : List ℕ → Judged Node
       judge frame = cond (leb mostNodes count) (faulty 10) (cond (eqb depth 0) (faulty 11) (nodeIn h scope frame))
@@ -95,6 +91,10 @@ module _ (s : List ℕ) (at : ℕ) where
   pub offer-whole : (h : Head) (least : ℕ) (next : Next Offer) → nextOffer h least (restAt s at) ≡ fine next → LineWhole s at
   unfolding nextOffer
   offer-whole h least next q = whole-frame (toTree offerLines) (offerIn h least) next q
+
+  pub label-whole : (h : Head) (least : ℕ) (next : Next Label) → nextLabel h least (restAt s at) ≡ fine next → LineWhole s at
+  unfolding nextLabel
+  label-whole h least next q = whole-frame (toTree labelLines) (labelIn h least) next q
 
   pub node-fits : (depth : ℕ) (h : Head) (scope : Scope) (count : ℕ) (node : Node) → nextNode depth h scope count (restAt s at) ≡ fine node
       → NodeFits s at depth count

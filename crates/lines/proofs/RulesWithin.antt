@@ -1,16 +1,17 @@
 -- The rules keep the limits: what they judge is one of reading's refusals, or something within the head's limits whose markers are given.
 -- Assumes nothing.
-use Prim.Native.Nat.{ℕ, suc, _<_}
+use Prim.Native.Nat.{ℕ, _≤_, _<_}
 use mathlib.Core.Path.{_≡_, refl}
-use mathlib.Core.Bool.{Bool, true, false, cond, not, _||_}
+use mathlib.Core.Bool.{Bool, true, false, cond, not, _&&_, _||_}
 use mathlib.Core.List.{List, [], _∷_}
 use native.Mathlib.Omega.{arith}
 use lib.Dec.{leb, ltb, eqb}
-use lib.ListN.{length}
-use borrow.Author.Tests.{leb-false, ltb-false, eqb-false, not-false}
+use lib.ListN.{length, length-drop}
+use borrow.Author.Tests.{eqb-true, leb-false, ltb-false, eqb-false, not-false}
 use Rattle.lines.specs.declared.Head.{Head}
 use Rattle.lines.specs.declared.FreeName.{FreeName}
 use Rattle.lines.specs.declared.Offer.{Offer}
+use Rattle.lines.specs.declared.Label.{Label}
 use Rattle.lines.specs.declared.Marker.{Marker}
 use Rattle.lines.specs.declared.Node.{Node}
 use Rattle.lines.specs.declared.Node.the-variants.{Nil, Silent, Send, Receive, Sum, Parallel, Restriction, Match, Replication, Bracket}
@@ -23,13 +24,20 @@ use Rattle.lines.specs.declared.frames.Kind.the-variants as kind
 use Rattle.sets.specs.Set.{Set, isNone, isNarrow}
 use Rattle.sets.proofs.Minimum.{none-decides}
 use Rattle.sets.proofs.Width.{narrow-decides}
-use Rattle.limits.specs.Limits.{mostChannels, mostBinders, highestLevel, highestName, mostNames}
-use Rattle.lines.specs.Text.{Line, isFaulty, bytesOf}
-use Rattle.lines.specs.Frames.{outside, Judged, faulty, fine, andOn, Next, here, byte, frameOf, rowIn, frameFor, frameIn}
+use Rattle.limits.specs.Limits.{mostChannels, mostBinders, highestLevel, highestName, mostNames, longestLabel}
+use Rattle.label_bytes.specs.Label.{isLabel}
+use Rattle.label_bytes.proofs.Labels.{label-test}
+use Rattle.text.specs.Text.{Line, isFaulty, bytesOf, byte}
+use Rattle.lines.specs.Frames.{labelLines, outside, Judged, faulty, fine, andOn, Next, here, rowIn, frameFor, frameIn}
 use Rattle.lines.specs.Scope.{Scope}
 use Rattle.lines.specs.Rules.{edition, outsideLimits, headRule, nameRule, offerRule, offerBy, meant, pairRule, receiveRule, restrictionRule, bracketRule, nodeBy}
-use Rattle.lines.specs.Promise.{Gives, HeadWithin, NameWithin, OfferWithin, NextWithin, MarkerWithin, IsGiven, ScopeWithin, NodeGood}
-use Rattle.lines.proofs.Tests.{or-false}
+use Rattle.lines.specs.Labels.{isThing, placeAmong, labelBytes, labelOf, labelRule, labelBy}
+use Rattle.lines.specs.inner.Working.{rowOf, IsRow}
+use Rattle.lines.specs.Promise.{Gives, OnLine, HeadWithin, NameWithin, OfferWithin, LabelWithin, NextWithin, MarkerWithin, IsGiven, ScopeWithin, NodeGood}
+use Rattle.text.proofs.Tests.{or-false}
+use Rattle.lines.proofs.Padded.{label-array}
+use Rattle.lines.proofs.Table.{is-row, label-long}
+use Rattle.lines.proofs.Things.{thing-told}
 
 -- ---- a test, and one thing judged after the other
 
@@ -37,7 +45,7 @@ pub gives-cond : {A : Type 0} (P : A → Type 0) (b : Bool) (x y : Judged A) →
 gives-cond P true x y h k = h refl
 gives-cond P false x y h k = k refl
 
-pub gives-on : {A B : Type 0} (P : A → Type 0) (Q : B → Type 0) (j : Judged A) (go-on : A → Judged B)
+gives-on : {A B : Type 0} (P : A → Type 0) (Q : B → Type 0) (j : Judged A) (go-on : A → Judged B)
     → Gives P j → ((a : A) → P a → Gives Q (go-on a)) → Gives Q (andOn j go-on)
 gives-on P Q (faulty n) go-on h k = h
 gives-on P Q (fine a) go-on h k = k a h
@@ -49,21 +57,33 @@ gives-more P Q q (fine a) w = (w, q)
 
 -- ---- a frame
 
-some-frame : (P : List ℕ → Type 0) (row : Frame) (span : Span) (size : ℕ) (frame : List ℕ) → P frame → Gives P (rowIn row span size frame)
+some-frame : (row : Frame) (span : Span) (frame : List ℕ) → row ≡ rowOf frame → (P : List ℕ → Type 0) → (IsRow frame row → P frame)
+    → Gives P (rowIn row span (length frame) frame)
 unfolding rowIn
-some-frame P row span size frame h =
-    gives-cond P (outside span (row .section)) (faulty 3) (cond (eqb size (row .size)) (fine frame) (faulty 4)) (λ e. omega arith)
-    (λ e. gives-cond P (eqb size (row .size)) (fine frame) (faulty 4) (λ e. h) (λ e. omega arith))
+some-frame row span frame found P h =
+    let long = leb (row .least) (length frame) && leb (length frame) (row .most) in
+    gives-cond P (outside span (row .section)) (faulty 3) (cond long (fine frame) (faulty 4)) (λ e. omega arith)
+    (λ e. gives-cond P long (fine frame) (faulty 4) (λ e. h (is-row row frame found e)) (λ e. omega arith))
 
--- a frame stands on a line that is there
-pub some-line : (span : Span) (left : List Line) → Gives (λ (frame : List ℕ). 0 < length left) (frameIn span left)
+-- a frame stands on a line that is there, and is as long as its row of the table asks
+abbrev Stands : List Line → List ℕ → Type 0
+Stands left frame = (0 < length left) × IsRow frame (rowOf frame)
+
+some-line : (span : Span) (left : List Line) → Gives (Stands left) (frameIn span left)
 unfolding frameIn
 some-line span [] = omega arith
 some-line span (l ∷ ls) =
-    let P : List ℕ → Type 0 = λ frame. 0 < suc (length ls) in
+    let P = Stands (l ∷ ls) in
     let frame = bytesOf (l .characters) in
     gives-cond P (isFaulty l) (faulty 2) (frameFor span frame) (λ e. omega arith)
-    (λ e. some-frame P (frameOf (byte 0 frame)) span (length frame) frame (omega arith))
+    (λ e. some-frame (rowOf frame) span frame refl P (λ row. (omega arith, row)))
+
+-- what a rule gives for every such frame
+pub on-line : {A : Type 0} (left : List Line) (P : A → Type 0) (span : Span) (rule : List ℕ → Judged A)
+    → ((frame : List ℕ) → IsRow frame (rowOf frame) → Gives P (rule frame)) → Gives (OnLine left P) (andOn (frameIn span left) rule)
+on-line left P span rule within =
+    gives-on (Stands left) (OnLine left P) (frameIn span left) rule (some-line span left)
+    (λ frame stands. gives-more P (0 < length left) (stands .0) (rule frame) (within frame (stands .1)))
 
 -- ---- the rules
 
@@ -111,21 +131,57 @@ offer-fine h least channel set high low none =
       some = none-decides set .no none;
     }
 
-offer-within : (h : Head) (least channel : ℕ) (set : Set) → Gives (NextWithin h least) (offerRule h least channel set)
+offer-within : (h : Head) (least channel : ℕ) (set : Set) → Gives (NextWithin (OfferWithin h least)) (offerRule h least channel set)
 unfolding offerRule
 offer-within h least channel set =
+    let P : Next Offer → Type 0 = NextWithin (OfferWithin h least) in
     let found : Judged (Next Offer) = fine (here (record { channel = channel; set = set })) in
     let some = cond (isNone set) (faulty 16) found in
     let ascending = cond (ltb channel least) (faulty 8) some in
     let high = leb (h .channels) channel || not (isNarrow (h .channels) set) in
-    gives-cond (NextWithin h least) high (faulty 7) ascending (λ e. omega arith)
-    (λ below. gives-cond (NextWithin h least) (ltb channel least) (faulty 8) some (λ e. omega arith)
-    (λ up. gives-cond (NextWithin h least) (isNone set) (faulty 16) found (λ e. omega arith) (offer-fine h least channel set below up)))
+    gives-cond P high (faulty 7) ascending (λ e. omega arith)
+    (λ below. gives-cond P (ltb channel least) (faulty 8) some (λ e. omega arith)
+    (λ up. gives-cond P (isNone set) (faulty 16) found (λ e. omega arith) (offer-fine h least channel set below up)))
 
 -- where the offers are over, nothing is asked
-pub next-within : (own : Bool) (h : Head) (least : ℕ) (frame : List ℕ) → Gives (NextWithin h least) (offerBy own h least frame)
-next-within true h least frame = offer-within h least (byte 1 frame) _
-next-within false h least frame = tt
+pub next-offer-within : (own : Bool) (h : Head) (least : ℕ) (frame : List ℕ) → Gives (NextWithin (OfferWithin h least)) (offerBy own h least frame)
+next-offer-within true h least frame = offer-within h least (byte 1 frame) _
+next-offer-within false h least frame = tt
+
+label-within : (h : Head) (least : ℕ) (label : Label) → 1 ≤ label .size → label .size ≤ longestLabel → length (label .bytes) ≡ longestLabel
+    → Gives (NextWithin (LabelWithin h least)) (labelRule h least label)
+unfolding labelRule
+label-within h least label some most array =
+    let P : Next Label → Type 0 = NextWithin (LabelWithin h least) in
+    let found : Judged (Next Label) = fine (here label) in
+    let place = placeAmong (label .kind) (label .number) in
+    let formed = cond (isLabel (labelBytes label)) found (faulty 17) in
+    let ascending = cond (ltb place least) (faulty 8) formed in
+    gives-cond P (isThing h (label .kind) (label .number)) ascending (faulty 7)
+    (λ thing. gives-cond P (ltb place least) (faulty 8) formed (λ e. omega arith)
+    (λ up. gives-cond P (isLabel (labelBytes label)) found (faulty 17) (within thing up) (λ e. omega arith)))
+    (λ e. omega arith)
+  where
+    within : isThing h (label .kind) (label .number) ≡ true → ltb (placeAmong (label .kind) (label .number)) least ≡ false
+        → isLabel (labelBytes label) ≡ true → LabelWithin h least label
+    within thing up well =
+        record {
+          ascending = ltb-false (placeAmong (label .kind) (label .number)) least up;
+          thing = thing-told h (label .kind) (label .number) thing;
+          some = some;
+          most = most;
+          array = array;
+          well-formed = label-test (labelBytes label) .0 well;
+        }
+
+-- where the labels are over, nothing is asked; a frame of the labels has 1 to 60 bytes more than three
+pub next-label-within : (own : Bool) (h : Head) (least : ℕ) (frame : List ℕ) → IsRow frame (rowOf frame) → eqb (rowOf frame .section) labelLines ≡ own
+    → Gives (NextWithin (LabelWithin h least)) (labelBy own h least frame)
+next-label-within true h least frame row e =
+    let long = label-long frame (rowOf frame) row (eqb-true (rowOf frame .section) labelLines e) in
+    let sized = length-drop 3 frame in
+    label-within h least (labelOf frame) (omega arith) (omega arith) (label-array frame (long .1))
+next-label-within false h least frame row e = tt
 
 module _ (h : Head) (given : List Marker) (scope : Scope) (within : ScopeWithin h given scope) where
   gives-meant : (P : Node → Type 0) (name : ℕ) (go-on : Marker → Judged Node)
@@ -167,9 +223,7 @@ module _ (h : Head) (given : List Marker) (scope : Scope) (within : ScopeWithin 
       gives-cond (NodeGood h given) (ltb (h .top) level) (faulty 7) _ (λ e. omega arith) (λ e. (ltb-false (h .top) level e, tt))
 
   pub node-within : (k : Kind) (frame : List ℕ) → Gives (NodeGood h given) (nodeBy k h scope frame)
-  node-within kind.Head frame = omega arith
-  node-within kind.Name frame = omega arith
-  node-within kind.Offer frame = omega arith
+  node-within kind.NoNode frame = omega arith
   node-within kind.Nil frame = (tt, tt)
   node-within kind.Silent frame = (tt, tt)
   node-within kind.Send frame = pair-within Send (byte 1 frame) (byte 2 frame) (λ m n a b c d. ((a, b), (c, d)))
@@ -180,4 +234,3 @@ module _ (h : Head) (given : List Marker) (scope : Scope) (within : ScopeWithin 
   node-within kind.Match frame = pair-within Match (byte 1 frame) (byte 2 frame) (λ m n a b c d. ((a, b), (c, d)))
   node-within kind.Replication frame = (tt, tt)
   node-within kind.Bracket frame = bracket-within (byte 1 frame)
-  node-within kind.Unknown frame = omega arith

@@ -1,20 +1,21 @@
--- Document 01, 'Plan text' and 'Refusal numbers', and document 02's order 1: the sections of a text, the table of frames, and the frame on a line (12,
--- 2, 3, 4).
+-- Document 01, 'Plan text' and 'Refusal numbers', and document 02's orders 1 and 2: the sections of a text, the table of frames, and the frame on a
+-- line (12, 2, 3, 4).
 -- Assumes nothing.
-use Prim.Native.Nat.{ℕ}
-use mathlib.Core.Bool.{Bool, cond, _||_}
+use Prim.Native.Nat.{ℕ, _+_}
+use mathlib.Core.Bool.{Bool, cond, _&&_, _||_}
 use mathlib.Core.List.{List, [], _∷_}
-use lib.ListN.{length, getD}
-use lib.Dec.{ltb, eqb}
+use lib.ListN.{length}
+use lib.Dec.{leb, ltb, eqb}
 use Rattle.lines.specs.declared.frames.Kind.{Kind}
-use Rattle.lines.specs.declared.frames.Kind.the-variants.{Head, Name, Offer, Nil, Silent, Send, Receive, Sum, Parallel, Restriction, Match, Replication, Bracket, Unknown}
+use Rattle.lines.specs.declared.frames.Kind.the-variants.{NoNode, Nil, Silent, Send, Receive, Sum, Parallel, Restriction, Match, Replication, Bracket}
 use Rattle.lines.specs.declared.frames.Frame.{Frame}
 use Rattle.lines.specs.declared.frames.Span.{Span}
-use Rattle.lines.specs.Text.{Line, isFaulty, bytesOf}
+use Rattle.limits.specs.Limits.{longestLabel}
+use Rattle.text.specs.Text.{Line, isFaulty, bytesOf, byte}
 
 -- ---- the sections
 
--- in order: the first line, the free names, the offers, the tree; a byte that begins no frame stands nowhere, which is before all of them
+-- in order: the first line, the free names, the offers, the labels, the tree; a byte that begins no frame stands nowhere, which is before all of them
 abbrev pub nowhere : ℕ
 nowhere = 0
 
@@ -27,8 +28,11 @@ freeNames = 2
 abbrev pub offerLines : ℕ
 offerLines = 3
 
+abbrev pub labelLines : ℕ
+labelLines = 4
+
 abbrev pub treeLines : ℕ
-treeLines = 4
+treeLines = 5
 
 -- 'allowed at this point' are the sections from the one that reading stands in to the last that may come now: that one alone
 abbrev pub only : ℕ → Span
@@ -44,19 +48,24 @@ outside span section = ltb section (span .from) || ltb (span .to) section
 
 -- ---- the table
 
--- a row of the table: the first byte, where the frame stands, its kind, and how many bytes it has with the first
+-- a row of the table: the first byte, where the frame stands, of which kind of node it is, and how many bytes it has, at least and at most
 pub record Row : Type 0 where
   pub first : ℕ
   pub frame : Frame
 
+abbrev between : ℕ → ℕ → Kind → ℕ → ℕ → Row
+between first section kind least most =
+    record { first = first; frame = record { section = section; kind = kind; least = least; most = most } }
+
 abbrev row : ℕ → ℕ → Kind → ℕ → Row
-row first section kind size = record { first = first; frame = record { section = section; kind = kind; size = size } }
+row first section kind size = between first section kind size size
 
 unfoldable pub table : List Row
 table =
-    row 0x01 firstLine Head 6
-    ∷ row 0x02 freeNames Name 3
-    ∷ row 0x03 offerLines Offer 6
+    row 0x01 firstLine NoNode 6
+    ∷ row 0x02 freeNames NoNode 3
+    ∷ row 0x03 offerLines NoNode 6
+    ∷ between 0x04 labelLines NoNode 4 (3 + longestLabel)
     ∷ row 0x10 treeLines Nil 1
     ∷ row 0x11 treeLines Silent 1
     ∷ row 0x12 treeLines Send 3
@@ -70,7 +79,7 @@ table =
     ∷ []
 
 abbrev pub unknown : Frame
-unknown = record { section = nowhere; kind = Unknown; size = 0 }
+unknown = record { section = nowhere; kind = NoNode; least = 0; most = 0 }
 
 -- the frame of the first row with that first byte
 unfoldable pub frameFrom : List Row → ℕ → Frame
@@ -97,15 +106,11 @@ pub data Next (A : Type 0) : Type 0 where
   here : A → Next A
   over : Next A
 
--- byte number i of a frame, where the first has number 0
-abbrev pub byte : ℕ → List ℕ → ℕ
-byte i frame = getD frame i 0
-
 -- a row of the table at this point, for a frame of so many bytes: 3 for its section, 4 for its length, or what is given for it
 unfoldable pub rowIn : {A : Type 0} → Frame → Span → ℕ → A → Judged A
 rowIn row span size given =
     cond (outside span (row .section)) (faulty 3)
-    (cond (eqb size (row .size)) (fine given)
+    (cond (leb (row .least) size && leb size (row .most)) (fine given)
     (faulty 4))
 
 -- the frame whose bytes these are, by the row of its first byte

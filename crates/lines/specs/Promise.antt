@@ -4,10 +4,11 @@
 use Prim.Native.Nat.{ℕ, _≤_, _<_}
 use mathlib.Core.Path.{_≡_}
 use mathlib.Core.List.{List, _∷_, List·Memᴰ}
-use mathlib.Core.Logic.{_≢_}
+use mathlib.Core.Logic.{_⊎_, _≢_}
 use lib.ListN.{length}
 use Rattle.lines.specs.declared.FreeName.{FreeName}
 use Rattle.lines.specs.declared.Head.{Head}
+use Rattle.lines.specs.declared.Label.{Label}
 use Rattle.lines.specs.declared.Marker.{Marker}
 use Rattle.lines.specs.declared.Marker.the-variants.{Channel, Binder}
 use Rattle.lines.specs.declared.Node.{Node}
@@ -15,15 +16,17 @@ use Rattle.lines.specs.declared.Offer.{Offer}
 use Rattle.lines.specs.declared.Node.the-variants.{Nil, Silent, Send, Receive, Sum, Parallel, Restriction, Match, Replication, Bracket}
 use Rattle.lines.specs.declared.scope.Meaning.the-variants.{Is}
 use Rattle.sets.specs.Set.{Narrow, Empty}
-use Rattle.limits.specs.Limits.{mostChannels, mostBinders, highestLevel, highestName, mostNames, mostNodes}
-use Rattle.lines.specs.Text.{Line}
+use Rattle.limits.specs.Limits.{mostChannels, mostBinders, highestLevel, highestName, mostNames, mostNodes, outermost, longestLabel}
+use Rattle.label_bytes.specs.Label.{IsLabel}
+use Rattle.text.specs.Text.{Line}
+use Rattle.text.specs.Positions.{endAt}
 use Rattle.lines.specs.Frames.{Judged, faulty, fine, Next, here, over}
+use Rattle.lines.specs.Labels.{channelKind, binderKind, levelKind, placeAmong, labelBytes}
 use Rattle.lines.specs.Scope.{Scope}
-use Rattle.lines.specs.Values.{endAt}
 
--- reading's refusals: 1 to 16 but for the solver's, 14, and the sheet's, 15
+-- reading's refusals: 1 to 18 but for the solver's, 14, and the sheet's, 15
 abbrev pub OfReading : ℕ → Type 0
-OfReading n = (1 ≤ n) × (n ≤ 16) × (n ≢ 14) × (n ≢ 15)
+OfReading n = (1 ≤ n) × (n ≤ 18) × (n ≢ 14) × (n ≢ 15)
 
 -- a refusal of reading, or something of which P holds
 abbrev pub Gives : {A : Type 0} → (A → Type 0) → Judged A → Type 0
@@ -65,10 +68,26 @@ pub record OfferWithin (h : Head) (least : ℕ) (offer : Offer) : Type 0 where
   pub handles : Narrow (h .channels) (offer .set)
   pub some : Empty (offer .set) → ⊥
 
--- nothing is asked where the offers are over
-abbrev pub NextWithin : Head → ℕ → Next Offer → Type 0
-NextWithin h least (here offer) = OfferWithin h least offer
-NextWithin h least over = Unit {0}
+-- a channel below C, a binder below B, a level 0 to k or 07
+abbrev pub IsThing : Head → ℕ → ℕ → Type 0
+IsThing h kind number =
+    ((kind ≡ channelKind) × (number < h .channels))
+    ⊎ (((kind ≡ binderKind) × (number < h .binders))
+    ⊎ ((kind ≡ levelKind) × ((number ≤ h .top) ⊎ (number ≡ outermost))))
+
+-- a label of a thing whose place is `least` or more, of 1 to 60 bytes that are well formed, in an array of 60
+pub record LabelWithin (h : Head) (least : ℕ) (label : Label) : Type 0 where
+  pub ascending : least ≤ placeAmong (label .kind) (label .number)
+  pub thing : IsThing h (label .kind) (label .number)
+  pub some : 1 ≤ label .size
+  pub most : label .size ≤ longestLabel
+  pub array : length (label .bytes) ≡ longestLabel
+  pub well-formed : IsLabel (labelBytes label)
+
+-- nothing is asked where a section is over
+abbrev pub NextWithin : {A : Type 0} → (A → Type 0) → Next A → Type 0
+NextWithin P (here a) = P a
+NextWithin P over = Unit {0}
 
 -- a channel below C, a binder below B
 abbrev pub MarkerWithin : Head → Marker → Type 0

@@ -5,6 +5,7 @@ use Prim.Native.Nat.{ℕ}
 use mathlib.Core.Bool.{Bool, true, false, cond, not, _||_}
 use mathlib.Core.List.{List}
 use lib.Dec.{leb, ltb, eqb}
+use Rattle.text.specs.Text.{byte}
 use Rattle.lines.specs.declared.Marker.{Marker}
 use Rattle.lines.specs.declared.scope.Meaning.{Meaning}
 use Rattle.lines.specs.declared.scope.Meaning.the-variants.{Nothing, Is}
@@ -17,7 +18,7 @@ use Rattle.lines.specs.declared.Node.{Node}
 use Rattle.lines.specs.declared.Node.the-variants.{Nil, Silent, Send, Receive, Sum, Parallel, Restriction, Match, Replication, Bracket}
 use Rattle.sets.specs.Set.{Set, isNone, isNarrow, setOfBytes}
 use Rattle.limits.specs.Limits.{mostChannels, mostBinders, highestLevel, highestName, mostNames}
-use Rattle.lines.specs.Frames.{offerLines, Judged, faulty, fine, Next, here, over, byte, frameOf}
+use Rattle.lines.specs.Frames.{offerLines, Judged, faulty, fine, Next, here, over, frameOf}
 use Rattle.lines.specs.Scope.{Scope}
 
 -- ---- the head
@@ -103,11 +104,9 @@ offerBy false h least frame = fine over
 abbrev pub offerIn : Head → ℕ → List ℕ → Judged (Next Offer)
 offerIn h least frame = offerBy (eqb (frameOf (byte 0 frame) .section) offerLines) h least frame
 
--- a node by its kind; no other kind stands in the tree
+-- a node by its kind; a frame of none doesn't stand in the tree
 abbrev pub nodeBy : Kind → Head → Scope → List ℕ → Judged Node
-nodeBy kind.Head h scope frame = faulty 3
-nodeBy kind.Name h scope frame = faulty 3
-nodeBy kind.Offer h scope frame = faulty 3
+nodeBy kind.NoNode h scope frame = faulty 3
 nodeBy kind.Nil h scope frame = fine Nil
 nodeBy kind.Silent h scope frame = fine Silent
 nodeBy kind.Send h scope frame = pairRule Send scope (byte 1 frame) (byte 2 frame)
@@ -118,7 +117,6 @@ nodeBy kind.Restriction h scope frame = restrictionRule h (byte 1 frame) (byte 2
 nodeBy kind.Match h scope frame = pairRule Match scope (byte 1 frame) (byte 2 frame)
 nodeBy kind.Replication h scope frame = fine Replication
 nodeBy kind.Bracket h scope frame = bracketRule h (byte 1 frame)
-nodeBy kind.Unknown h scope frame = faulty 3
 
 abbrev pub nodeIn : Head → Scope → List ℕ → Judged Node
 nodeIn h scope frame = nodeBy (frameOf (byte 0 frame) .kind) h scope frame

@@ -1,12 +1,14 @@
 // The sections of a text, the table of frames, and the frame on a line.
 ghost use mathlib.Core.Path.{_≡_};
+ghost use Rattle.text.specs.Positions.{restAt};
 ghost use Rattle.lines.specs.declared.frames.Frame.{Frame};
 ghost use Rattle.lines.specs.Frames.{only, toTree, outside, frameOf, rowIn, frameIn};
-ghost use Rattle.lines.specs.Values.{restAt};
 ghost use Rattle.lines.specs.inner.Working.{rowOf, framedOf};
-use crate::text::byte_in;
-use crate::text::is_faulty;
-use crate::text::line_end;
+use limits::LONGEST_LABEL;
+use text::byte_in;
+use text::is_faulty;
+use text::line_end;
+use text::size_in;
 
 // The sections of a text, in order; a byte that begins no frame stands nowhere, which is before all of them.
 const NOWHERE: u8 = 0;
@@ -17,7 +19,12 @@ pub(crate) const FREE_NAMES: u8 = 2;
 
 pub(crate) const OFFER_LINES: u8 = 3;
 
-pub(crate) const TREE_LINES: u8 = 4;
+pub(crate) const LABEL_LINES: u8 = 4;
+
+pub(crate) const TREE_LINES: u8 = 5;
+
+// The bytes of the longest label's frame: its first byte, the kind and the number stand before the label.
+const LONGEST_LABEL_FRAME: usize = 3 + LONGEST_LABEL;
 
 // The sections that the next line may stand in: from the one that reading stands in to the last that may come now.
 pub(crate) struct Span {
@@ -25,11 +32,9 @@ pub(crate) struct Span {
     pub(crate) to: u8,
 }
 
-// The kinds of frame, and none.
+// The kinds of node, and none.
 pub(crate) enum Kind {
-    Head,
-    Name,
-    Offer,
+    NoNode,
     Nil,
     Silent,
     Send,
@@ -40,14 +45,14 @@ pub(crate) enum Kind {
     Match,
     Replication,
     Bracket,
-    Unknown,
 }
 
-// A row of the table: in which section a frame stands, its kind, and how many bytes it has.
+// A row of the table: in which section a frame stands, of which kind of node it is, and how many bytes it has, at least and at most.
 pub(crate) struct Frame {
     pub(crate) section: u8,
     pub(crate) kind: Kind,
-    pub(crate) size: usize,
+    pub(crate) least: usize,
+    pub(crate) most: usize,
 }
 
 // What a line is at this point: a refusal's number, or a frame.
@@ -86,14 +91,15 @@ fn outside(span: Span, section: u8) -> bool
     span.to < section
 }
 
-// A row of the table.
+// A row of the table, for a frame of so many bytes.
 fn row(section: u8, kind: Kind, size: usize) -> Frame
-    ensures { λ r. ⌜ r ≡ record { section = section; kind = kind; size = size } ⌝ }
+    ensures { λ r. ⌜ r ≡ record { section = section; kind = kind; least = size; most = size } ⌝ }
 {
     Frame {
         section,
         kind,
-        size,
+        least: size,
+        most: size,
     }
 }
 
@@ -102,9 +108,15 @@ fn frame_of(first: u8) -> Frame
     ensures { λ r. ⌜ r ≡ frameOf first ⌝ }
 {
     match first {
-        0x01 => row(FIRST_LINE, Kind::Head, 6),
-        0x02 => row(FREE_NAMES, Kind::Name, 3),
-        0x03 => row(OFFER_LINES, Kind::Offer, 6),
+        0x01 => row(FIRST_LINE, Kind::NoNode, 6),
+        0x02 => row(FREE_NAMES, Kind::NoNode, 3),
+        0x03 => row(OFFER_LINES, Kind::NoNode, 6),
+        0x04 => Frame {
+            section: LABEL_LINES,
+            kind: Kind::NoNode,
+            least: 4,
+            most: LONGEST_LABEL_FRAME,
+        },
         0x10 => row(TREE_LINES, Kind::Nil, 1),
         0x11 => row(TREE_LINES, Kind::Silent, 1),
         0x12 => row(TREE_LINES, Kind::Send, 3),
@@ -115,7 +127,7 @@ fn frame_of(first: u8) -> Frame
         0x17 => row(TREE_LINES, Kind::Match, 3),
         0x18 => row(TREE_LINES, Kind::Replication, 1),
         0x19 => row(TREE_LINES, Kind::Bracket, 2),
-        _ => row(NOWHERE, Kind::Unknown, 0),
+        _ => row(NOWHERE, Kind::NoNode, 0),
     }
 }
 
@@ -126,7 +138,10 @@ fn row_in(row: Frame, span: Span, size: usize) -> Framed
     if outside(span, row.section) {
         return Framed::Faulty(3);
     }
-    if size != row.size {
+    if size < row.least {
+        return Framed::Faulty(4);
+    }
+    if row.most < size {
         return Framed::Faulty(4);
     }
     Framed::Frame(row)
@@ -144,5 +159,5 @@ pub(crate) fn frame_in(text: &[u8], span: Span, at: usize) -> Framed
         return Framed::Faulty(2);
     }
     let row = frame_of(byte_in(text, at, 0));
-    row_in(row, span, (end - at) / 2)
+    row_in(row, span, size_in(text, at))
 }

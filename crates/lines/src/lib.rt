@@ -1,30 +1,35 @@
-// What one line of a plan text says, as the head's, a free name's, an offer's or a node's: a refusal's number, or what was found.
-// The way of the data: text (a line's characters and bytes), frames (the table), scope (what names mean), rules (what a frame's bytes say), and the
-// line here. Proved: each operation answers as documents 01 and 02 judge the line at that position. It knows nothing of the lines before and behind:
-// a caller says which section reading stands in by the operation, and what was read before by its arguments.
+// What one line of a plan text says, as the head's, a free name's, an offer's, a label's or a node's: a refusal's number, or what was found.
+// The way of the data: frames (the table, over a line's bytes, which the crate `text` finds), scope (what names mean), rules and labels (what a frame's
+// bytes say), and the line here. Proved: each operation answers as documents 01 and 02 judge the line at that position. It knows nothing of the lines
+// before and behind: a caller says which section reading stands in by the operation, and what was read before by its arguments.
 ghost use mathlib.Core.Path.{_≡_};
-ghost use Rattle.lines.specs.Line.{firstHead, nextName, nextOffer, nextNode};
-ghost use Rattle.lines.specs.Values.{restAt, openingOf, entryOf, offeringOf, stepOf, meaningIn};
+ghost use Rattle.text.specs.Positions.{restAt};
+ghost use Rattle.lines.specs.Line.{firstHead, nextName, nextOffer, nextLabel, nextNode};
+ghost use Rattle.lines.specs.Values.{openingOf, entryOf, offeringOf, labelLineOf, stepOf, meaningIn};
 use crate::frames::FIRST_LINE;
 use crate::frames::FREE_NAMES;
 use crate::frames::Framed;
+use crate::frames::LABEL_LINES;
 use crate::frames::OFFER_LINES;
 use crate::frames::TREE_LINES;
 use crate::frames::frame_in;
 use crate::frames::only;
 use crate::frames::to_tree;
+use crate::labels::faulty;
+use crate::labels::label_in;
 use crate::rules::head_in;
 use crate::rules::name_in;
 use crate::rules::node_in;
 use crate::rules::offer_in;
 use crate::scope::Scope;
+use limits::LONGEST_LABEL;
 use limits::MOST_NODES;
 use sets::Set;
 
 mod frames;
+pub mod labels;
 mod rules;
 pub mod scope;
-pub mod text;
 
 // What a name stands for: a channel, or a receive's binder.
 pub enum Marker {
@@ -66,6 +71,14 @@ pub struct Offer {
     pub set: Set,
 }
 
+// The label of a channel, a binder or a level: its kind and number, how many bytes it has, and these with zeros behind them.
+pub struct Label {
+    pub kind: u8,
+    pub number: u8,
+    pub size: usize,
+    pub bytes: [u8; LONGEST_LABEL],
+}
+
 // What the first line says: a refusal's number, or the head.
 pub enum Opening {
     Faulty(u8),
@@ -83,6 +96,19 @@ pub enum Offering {
     Faulty(u8),
     Found(Offer),
     Over,
+}
+
+// What a line says where a label may stand: a refusal's number, that there is a label, or that the labels are over.
+pub enum Labelling {
+    Faulty(u8),
+    Found,
+    Over,
+}
+
+// The same, with the label beside it, which is blank where there is none.
+pub struct LabelLine {
+    pub said: Labelling,
+    pub label: Label,
 }
 
 // What a node's line says: a refusal's number, or the node.
@@ -118,6 +144,16 @@ pub fn next_offer(text: &[u8], at: usize, head: Head, least: usize) -> Offering
     match frame_in(text, to_tree(OFFER_LINES), at) {
         Framed::Faulty(number) => Offering::Faulty(number),
         Framed::Frame(frame) => offer_in(text, at, frame, head, least),
+    }
+}
+
+// What the line at `at` says where a label may stand, of a thing whose place is `least` or more.
+pub fn next_label(text: &[u8], at: usize, head: Head, least: usize) -> LabelLine
+    ensures { λ r. ⌜ r ≡ labelLineOf (nextLabel head least (restAt (now (text .entry)) at)) ⌝ }
+{
+    match frame_in(text, to_tree(LABEL_LINES), at) {
+        Framed::Faulty(number) => faulty(number),
+        Framed::Frame(frame) => label_in(text, at, frame, head, least),
     }
 }
 

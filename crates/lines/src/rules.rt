@@ -1,9 +1,10 @@
 // The rule of each frame over its bytes: the head (5, 6), a free name (7, 8), an offer (7, 8, 16), a node (7, 9).
 ghost use mathlib.Core.Path.{_≡_};
 ghost use lib.ListN.{length};
+ghost use Rattle.text.specs.Positions.{bytesAt};
 ghost use Rattle.lines.specs.Rules.{outsideLimits, headOf, headIn, nameRule, nameIn, offerRule, offerIn, pairRule, receiveRule, restrictionRule, bracketRule, nodeIn};
 ghost use Rattle.lines.specs.Values.{meaningIn, openingOf, entryOf, offeringOf, stepOf};
-ghost use Rattle.lines.specs.inner.Working.{frameAt, IsRow, pairOf};
+ghost use Rattle.lines.specs.inner.Working.{IsRow, pairOf};
 use crate::Entry;
 use crate::FreeName;
 use crate::Head;
@@ -19,13 +20,13 @@ use crate::frames::OFFER_LINES;
 use crate::scope::Meaning;
 use crate::scope::Scope;
 use crate::scope::look_up;
-use crate::text::byte_in;
 use limits::HIGHEST_LEVEL;
 use limits::HIGHEST_NAME;
 use limits::MOST_BINDERS;
 use limits::MOST_CHANNELS;
 use limits::MOST_NAMES;
 use sets::Set;
+use text::byte_in;
 
 const EDITION: u8 = 1;
 
@@ -51,8 +52,8 @@ fn outside_limits(head: Head) -> bool
 
 // The numbers of a head, as they stand in the frame at `at`.
 fn head_of(text: &[u8], at: usize) -> Head
-    requires { ⌜ length (frameAt (now text) at) ≡ 6 ⌝ }
-    ensures { λ r. ⌜ r ≡ headOf (frameAt (now (text .entry)) at) ⌝ }
+    requires { ⌜ length (bytesAt (now text) at) ≡ 6 ⌝ }
+    ensures { λ r. ⌜ r ≡ headOf (bytesAt (now (text .entry)) at) ⌝ }
 {
     Head {
         channels: byte_in(text, at, 2),
@@ -64,8 +65,8 @@ fn head_of(text: &[u8], at: usize) -> Head
 
 // The head in the frame at `at`.
 pub(crate) fn head_in(text: &[u8], at: usize) -> Opening
-    requires { ⌜ length (frameAt (now text) at) ≡ 6 ⌝ }
-    ensures { λ r. ⌜ r ≡ openingOf (headIn (frameAt (now (text .entry)) at)) ⌝ }
+    requires { ⌜ length (bytesAt (now text) at) ≡ 6 ⌝ }
+    ensures { λ r. ⌜ r ≡ openingOf (headIn (bytesAt (now (text .entry)) at)) ⌝ }
 {
     let head = head_of(text, at);
     if byte_in(text, at, 1) != EDITION {
@@ -95,8 +96,8 @@ fn name_rule(head: Head, least: usize, name: u8, channel: u8) -> Entry
 
 // The free name in the frame at `at`.
 pub(crate) fn name_in(text: &[u8], at: usize, head: Head, least: usize) -> Entry
-    requires { ⌜ length (frameAt (now text) at) ≡ 3 ⌝ }
-    ensures { λ r. ⌜ r ≡ entryOf (nameIn head least (frameAt (now (text .entry)) at)) ⌝ }
+    requires { ⌜ length (bytesAt (now text) at) ≡ 3 ⌝ }
+    ensures { λ r. ⌜ r ≡ entryOf (nameIn head least (bytesAt (now (text .entry)) at)) ⌝ }
 {
     name_rule(head, least, byte_in(text, at, 1), byte_in(text, at, 2))
 }
@@ -122,8 +123,8 @@ fn offer_rule(head: Head, least: usize, channel: u8, set: Set) -> Offering
 
 // The offer in the frame at `at`, of which `frame` is the table's row; or the offers are over, where the frame is of a later section.
 pub(crate) fn offer_in(text: &[u8], at: usize, frame: Frame, head: Head, least: usize) -> Offering
-    requires { ⌜ IsRow (frameAt (now text) at) frame ⌝ }
-    ensures { λ r. ⌜ r ≡ offeringOf (offerIn head least (frameAt (now (text .entry)) at)) ⌝ }
+    requires { ⌜ IsRow (bytesAt (now text) at) frame ⌝ }
+    ensures { λ r. ⌜ r ≡ offeringOf (offerIn head least (bytesAt (now (text .entry)) at)) ⌝ }
 {
     if frame.section != OFFER_LINES {
         return Offering::Over;
@@ -211,14 +212,12 @@ fn bracket_rule(head: Head, level: u8) -> Step
 
 // The node in the frame at `at`, of which `frame` is the table's row.
 pub(crate) fn node_in(text: &[u8], at: usize, frame: Frame, head: Head, scope: Scope) -> Step
-    requires { ⌜ IsRow (frameAt (now text) at) frame ⌝ }
-    ensures { λ r. ⌜ r ≡ stepOf (nodeIn head (meaningIn scope) (frameAt (now (text .entry)) at)) ⌝ }
+    requires { ⌜ IsRow (bytesAt (now text) at) frame ⌝ }
+    ensures { λ r. ⌜ r ≡ stepOf (nodeIn head (meaningIn scope) (bytesAt (now (text .entry)) at)) ⌝ }
 {
     let kind = frame.kind;
     match kind {
-        Kind::Head => Step::Faulty(3),
-        Kind::Name => Step::Faulty(3),
-        Kind::Offer => Step::Faulty(3),
+        Kind::NoNode => Step::Faulty(3),
         Kind::Nil => Step::Found(Node::Nil),
         Kind::Silent => Step::Found(Node::Silent),
         Kind::Send => pair_rule(false, scope, byte_in(text, at, 1), byte_in(text, at, 2)),
@@ -235,6 +234,5 @@ pub(crate) fn node_in(text: &[u8], at: usize, frame: Frame, head: Head, scope: S
         Kind::Match => pair_rule(true, scope, byte_in(text, at, 1), byte_in(text, at, 2)),
         Kind::Replication => Step::Found(Node::Replication),
         Kind::Bracket => bracket_rule(head, byte_in(text, at, 1)),
-        Kind::Unknown => Step::Faulty(3),
     }
 }

@@ -1,9 +1,8 @@
 -- `first_head`: the frame on the line, then the rule of the head over its bytes. Assumes nothing.
-use mathlib.Core.Path.{_∙_}
 use borrow.Author.Needs.{needs}
 use Rattle.lines.specs.Frames.{firstLine, only}
 use Rattle.lines.specs.Line.{firstHead}
-use Rattle.lines.proofs.Table.{head-size, framed-faulty, framed-fine}
+use Rattle.lines.proofs.Table.{head-long, in-only, framed-faulty, framed-fine}
 use Rattle.lines.proofs.first_head.Statement.{statement}
 use Rattle.lines.proofs.first_head.Tie as tie
 
@@ -25,7 +24,7 @@ head-in-requires c κs =
     let start = framed .before .before .before .args in
     let spanned = framed .before .only .ensures in
     let fine = framed-fine (start .text .now) (only firstLine) (start .at) _ spanned _ (framed .frame-in .ensures) _ (c .enum-told .given .1) in
-    fine .framing .long ∙ head-size _ (fine .framing .allowed)
+    head-long _ _ (fine .framing .is-row) (in-only _ _ (fine .framing .allowed))
 
 returns : tie.Need-returns
 unfolding firstHead

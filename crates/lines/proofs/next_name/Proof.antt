@@ -1,9 +1,8 @@
 -- `next_name`: the frame on the line, then the rule of a free name over its bytes. Assumes nothing.
-use mathlib.Core.Path.{_∙_}
 use borrow.Author.Needs.{needs}
 use Rattle.lines.specs.Frames.{freeNames, only}
 use Rattle.lines.specs.Line.{nextName}
-use Rattle.lines.proofs.Table.{name-size, framed-faulty, framed-fine}
+use Rattle.lines.proofs.Table.{name-long, in-only, framed-faulty, framed-fine}
 use Rattle.lines.proofs.next_name.Statement.{statement}
 use Rattle.lines.proofs.next_name.Tie as tie
 
@@ -25,7 +24,7 @@ name-in-requires c κs =
     let start = framed .before .before .before .args in
     let spanned = framed .before .only .ensures in
     let fine = framed-fine (start .text .now) (only freeNames) (start .at) _ spanned _ (framed .frame-in .ensures) _ (c .enum-told .given .1) in
-    fine .framing .long ∙ name-size _ (fine .framing .allowed)
+    name-long _ _ (fine .framing .is-row) (in-only _ _ (fine .framing .allowed))
 
 returns : tie.Need-returns
 unfolding nextName

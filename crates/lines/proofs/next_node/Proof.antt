@@ -1,8 +1,6 @@
 -- `next_node`: the frame on the line, the tests of room and depth, then the rule of the node's kind. Assumes nothing.
-use mathlib.Core.Path.{sym, ap, _∙_}
 use borrow.Author.Needs.{needs}
 use borrow.Author.Tests.{le-leb, lt-leb, eq-eqb, ne-eqb}
-use Rattle.lines.specs.declared.frames.Frame.{Frame}
 use Rattle.lines.specs.Frames.{treeLines, only}
 use Rattle.lines.specs.Line.{nextNode}
 use Rattle.lines.proofs.Table.{framed-faulty, framed-fine}
@@ -48,7 +46,7 @@ node-in-requires c κs =
     let start = framed .before .before .before .args in
     let spanned = framed .before .only .ensures in
     let fine = framed-fine (start .text .now) (only treeLines) (start .at) _ spanned _ (framed .frame-in .ensures) _ (known .frame .given .1) in
-    record { found = fine .found; long = fine .framing .long ∙ ap (λ (f : Frame). f .size) (sym (fine .found)) }
+    fine .framing .is-row
 
 returns-3 : tie.Need-returns-3
 unfolding nextNode

@@ -1,7 +1,5 @@
 -- `next_offer`: the frame on the line, then the rule of an offer over its bytes, or the offers are over. Assumes nothing.
-use mathlib.Core.Path.{sym, ap, _∙_}
 use borrow.Author.Needs.{needs}
-use Rattle.lines.specs.declared.frames.Frame.{Frame}
 use Rattle.lines.specs.Frames.{offerLines, toTree}
 use Rattle.lines.specs.Line.{nextOffer}
 use Rattle.lines.proofs.Table.{framed-faulty, framed-fine}
@@ -26,7 +24,7 @@ offer-in-requires c κs =
     let start = framed .before .before .before .args in
     let spanned = framed .before .to-tree .ensures in
     let fine = framed-fine (start .text .now) (toTree offerLines) (start .at) _ spanned _ (framed .frame-in .ensures) _ (c .before .frame .given .1) in
-    record { found = fine .found; long = fine .framing .long ∙ ap (λ (f : Frame). f .size) (sym (fine .found)) }
+    fine .framing .is-row
 
 returns : tie.Need-returns
 unfolding nextOffer

@@ -1,6 +1,6 @@
--- The frame on the line at a position, as the code holds it: its bytes, its row of the table, and the node of two markers.
+-- The frame on a line, as the code holds it: its row of the table, and the node of two markers.
 -- Assumes nothing.
-use Prim.Native.Nat.{ℕ}
+use Prim.Native.Nat.{ℕ, _≤_}
 use mathlib.Core.Bool.{Bool, true, false}
 use mathlib.Core.Path.{_≡_}
 use mathlib.Core.List.{List}
@@ -10,13 +10,8 @@ use Rattle.lines.specs.declared.Node.{Node}
 use Rattle.lines.specs.declared.Node.the-variants.{Match, Send}
 use Rattle.lines.specs.declared.frames.Frame.{Frame}
 use Rattle.lines.specs.declared.frames.Framed.{Framed}
-use Rattle.lines.specs.Text.{bytesOf}
-use Rattle.lines.specs.Frames.{Judged, faulty, fine, byte, frameOf}
-use Rattle.lines.specs.Values.{lineAt}
-
--- the bytes of the line that begins at a position
-abbrev pub frameAt : List ℕ → ℕ → List ℕ
-frameAt s at = bytesOf (lineAt s at .characters)
+use Rattle.text.specs.Text.{byte}
+use Rattle.lines.specs.Frames.{Judged, faulty, fine, frameOf}
 
 -- the row of the table for a frame's bytes
 abbrev pub rowOf : List ℕ → Frame
@@ -30,7 +25,8 @@ framedOf row (fine a) = Framed.Frame (row a)
 -- a frame's row of the table, where the frame is as long as that asks
 pub record IsRow (bytes : List ℕ) (row : Frame) : Type 0 where
   pub found : row ≡ rowOf bytes
-  pub long : length bytes ≡ row .size
+  pub long : row .least ≤ length bytes
+  pub short : length bytes ≤ row .most
 
 -- the node of two markers
 abbrev pub pairOf : Bool → Marker → Marker → Node

@@ -1,12 +1,12 @@
 -- `frame_in`: each return is what is judged of the line, by the tests that led to it. Assumes nothing.
-use Prim.Native.Nat.{_-_, _/_, _<_}
-use mathlib.Core.Path.{_≡_, sym, ap, _∙_}
+use Prim.Native.Nat.{_<_}
+use mathlib.Core.Path.{sym, ap, _∙_}
 use native.Mathlib.Omega.{arith}
 use borrow.Author.Needs.{needs}
 use lib.ListN.{length}
 use Rattle.lines.specs.Frames.{frameOf}
-use Rattle.lines.specs.inner.Working.{frameAt, rowOf, framedOf}
-use Rattle.lines.proofs.Table.{frame-none, frame-faulty, frame-row, line-sound, line-ends}
+use Rattle.lines.specs.inner.Working.{rowOf, framedOf}
+use Rattle.lines.proofs.Table.{frame-none, frame-faulty, frame-row, line-sound}
 use Rattle.lines.proofs.frames.frame_in.Statement.{statement}
 use Rattle.lines.proofs.frames.frame_in.Tie as tie
 
@@ -39,15 +39,15 @@ byte-in-requires c κs =
 frame-of-requires : tie.Need-frame-of-requires
 frame-of-requires c κs = search needs
 
-sub-row-in : tie.Need-sub-row-in
-sub-row-in c = search needs
+size-in-requires : tie.Need-size-in-requires
+size-in-requires c κs = search needs
 
 row-in-requires : tie.Need-row-in-requires
 row-in-requires c κs = search needs
 
 returns-3 : tie.Need-returns-3
 returns-3 c =
-    let found = c .before in
+    let found = c .before .before in
     let passed = found .before .before in
     let start = passed .before .before .before .before .before in
     let s = start .args .text .now in
@@ -55,10 +55,7 @@ returns-3 c =
     let here : at < length s = omega arith in
     let sound = sym (passed .before .is-faulty .ensures) ∙ passed .if2 .left in
     let row = found .frame-of .ensures ∙ ap frameOf (found .before .byte-in .ensures) in
-    let long = line-ends s (start .args .span) at here sound in
-    let end = passed .before .before .line-end in
-    let size : (end .result - at) / 2 ≡ length (frameAt s at) = omega (arith, end .ensures, long) in
-    c .row-in .ensures ∙ rw (row, size) (sym (frame-row s (start .args .span) at here sound))
+    c .row-in .ensures ∙ rw (row, c .before .size-in .ensures) (sym (frame-row s (start .args .span) at here sound))
 
 pub frame-in-spec : {M : Type 1} → statement M
 frame-in-spec =
@@ -70,6 +67,6 @@ frame-in-spec =
     returns-2
     byte-in-requires
     frame-of-requires
-    sub-row-in
+    size-in-requires
     row-in-requires
     returns-3)

@@ -61,47 +61,51 @@ returns-3 c = rw (c .before .match .keys3) (c .row3 .ensures)
 
 returns-4 : tie.Need-returns-4
 unfolding table frameFrom
-returns-4 c = rw (c .before .match .keys4) (c .row4 .ensures)
+returns-4 c = rw (c .match .keys4)
 
 returns-5 : tie.Need-returns-5
 unfolding table frameFrom
-returns-5 c = rw (c .before .match .keys5) (c .row5 .ensures)
+returns-5 c = rw (c .before .match .keys5) (c .row4 .ensures)
 
 returns-6 : tie.Need-returns-6
 unfolding table frameFrom
-returns-6 c = rw (c .before .match .keys6) (c .row6 .ensures)
+returns-6 c = rw (c .before .match .keys6) (c .row5 .ensures)
 
 returns-7 : tie.Need-returns-7
 unfolding table frameFrom
-returns-7 c = rw (c .before .match .keys7) (c .row7 .ensures)
+returns-7 c = rw (c .before .match .keys7) (c .row6 .ensures)
 
 returns-8 : tie.Need-returns-8
 unfolding table frameFrom
-returns-8 c = rw (c .before .match .keys8) (c .row8 .ensures)
+returns-8 c = rw (c .before .match .keys8) (c .row7 .ensures)
 
 returns-9 : tie.Need-returns-9
 unfolding table frameFrom
-returns-9 c = rw (c .before .match .keys9) (c .row9 .ensures)
+returns-9 c = rw (c .before .match .keys9) (c .row8 .ensures)
 
 returns-10 : tie.Need-returns-10
 unfolding table frameFrom
-returns-10 c = rw (c .before .match .keys10) (c .row10 .ensures)
+returns-10 c = rw (c .before .match .keys10) (c .row9 .ensures)
 
 returns-11 : tie.Need-returns-11
 unfolding table frameFrom
-returns-11 c = rw (c .before .match .keys11) (c .row11 .ensures)
+returns-11 c = rw (c .before .match .keys11) (c .row10 .ensures)
 
 returns-12 : tie.Need-returns-12
 unfolding table frameFrom
-returns-12 c = rw (c .before .match .keys12) (c .row12 .ensures)
+returns-12 c = rw (c .before .match .keys12) (c .row11 .ensures)
 
 returns-13 : tie.Need-returns-13
 unfolding table frameFrom
-returns-13 c = rw (c .before .match .keys13) (c .row13 .ensures)
+returns-13 c = rw (c .before .match .keys13) (c .row12 .ensures)
 
 returns-14 : tie.Need-returns-14
 unfolding table frameFrom
-returns-14 c =
+returns-14 c = rw (c .before .match .keys14) (c .row13 .ensures)
+
+returns-15 : tie.Need-returns-15
+unfolding table frameFrom
+returns-15 c =
     let first = c .before .before .args .first in
     let rest = c .before .match .rest in
     simp (
@@ -115,9 +119,10 @@ returns-14 c =
       ne-eqb first 0x12 (rest .0 .0 .0 .0 .0 .0 .0 .1),
       ne-eqb first 0x11 (rest .0 .0 .0 .0 .0 .0 .0 .0 .1),
       ne-eqb first 0x10 (rest .0 .0 .0 .0 .0 .0 .0 .0 .0 .1),
-      ne-eqb first 0x03 (rest .0 .0 .0 .0 .0 .0 .0 .0 .0 .0 .1),
-      ne-eqb first 0x02 (rest .0 .0 .0 .0 .0 .0 .0 .0 .0 .0 .0 .1),
-      ne-eqb first 0x01 (rest .0 .0 .0 .0 .0 .0 .0 .0 .0 .0 .0 .0 .1),
+      ne-eqb first 0x04 (rest .0 .0 .0 .0 .0 .0 .0 .0 .0 .0 .1),
+      ne-eqb first 0x03 (rest .0 .0 .0 .0 .0 .0 .0 .0 .0 .0 .0 .1),
+      ne-eqb first 0x02 (rest .0 .0 .0 .0 .0 .0 .0 .0 .0 .0 .0 .0 .1),
+      ne-eqb first 0x01 (rest .0 .0 .0 .0 .0 .0 .0 .0 .0 .0 .0 .0 .0 .1),
     ) (c .row14 .ensures)
 
 pub frame-of-spec : {M : Type 1} → statement M
@@ -151,4 +156,5 @@ frame-of-spec =
     returns-11
     returns-12
     returns-13
-    returns-14)
+    returns-14
+    returns-15)

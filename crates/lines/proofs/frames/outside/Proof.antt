@@ -1,6 +1,6 @@
 -- `outside`: each return is the definition's answer under the tests that led to it. Assumes nothing.
 use Rattle.lines.specs.Frames.{outside}
-use Rattle.lines.proofs.Tests.{tests}
+use Rattle.text.proofs.Tests.{tests}
 use Rattle.lines.proofs.frames.outside.Statement.{statement}
 use Rattle.lines.proofs.frames.outside.Tie as tie
 

@@ -1,6 +1,6 @@
 -- `bracket_rule`: each return is the rule's answer under the tests that led to it. Assumes nothing.
 use Rattle.lines.specs.Rules.{bracketRule}
-use Rattle.lines.proofs.Tests.{tests}
+use Rattle.text.proofs.Tests.{tests}
 use Rattle.lines.proofs.rules.bracket_rule.Statement.{statement}
 use Rattle.lines.proofs.rules.bracket_rule.Tie as tie
 

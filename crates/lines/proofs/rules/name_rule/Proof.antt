@@ -1,6 +1,6 @@
 -- `name_rule`: each return is the rule's answer under the tests that led to it. Assumes nothing.
 use Rattle.lines.specs.Rules.{nameRule}
-use Rattle.lines.proofs.Tests.{tests}
+use Rattle.text.proofs.Tests.{tests}
 use Rattle.lines.proofs.rules.name_rule.Statement.{statement}
 use Rattle.lines.proofs.rules.name_rule.Tie as tie
 

@@ -3,13 +3,15 @@ use mathlib.Core.Path.{ap, _∙_}
 use native.Mathlib.Omega.{arith}
 use borrow.Author.Needs.{needs}
 use borrow.Author.Tests.{eq-eqb, ne-eqb}
+use Rattle.lines.specs.Frames.{offerLines}
+use Rattle.lines.specs.Rules.{offerBy}
 use Rattle.lines.specs.Values.{offeringOf}
 use Rattle.lines.proofs.Table.{offer-long, rule-by-section}
 use Rattle.lines.proofs.rules.offer_in.Statement.{statement}
 use Rattle.lines.proofs.rules.offer_in.Tie as tie
 
 returns : tie.Need-returns
-returns c = ap offeringOf (rule-by-section _ _ (c .before .before .before .pre) _ (ne-eqb _ _ (c .if1 .taken)) _ _)
+returns c = ap offeringOf (rule-by-section _ _ (c .before .before .before .pre) offerBy offerLines _ (ne-eqb _ _ (c .if1 .taken)) _ _)
 
 byte-in-requires : tie.Need-byte-in-requires
 byte-in-requires c κs = omega (arith, offer-long _ _ (c .before .before .before .pre) (c .if1 .left))
@@ -45,7 +47,7 @@ returns-2 c =
     let set = c .before .before in
     let fourth = set .before in
     let tested = fourth .before .before .before .before in
-    let rule = ap offeringOf (rule-by-section _ _ (tested .before .before .before .pre) _ (eq-eqb _ _ (tested .if1 .left)) _ _) in
+    let rule = ap offeringOf (rule-by-section _ _ (tested .before .before .before .pre) offerBy offerLines _ (eq-eqb _ _ (tested .if1 .left)) _ _) in
     c .offer-rule .ensures
     ∙ rw (
       c .before .byte-in5 .ensures,

@@ -1,7 +1,7 @@
 -- `outside_limits`: each return is the definition's answer under the tests that led to it. Assumes nothing.
 use Rattle.lines.specs.Rules.{outsideLimits}
 use borrow.Author.Needs.{needs}
-use Rattle.lines.proofs.Tests.{tests}
+use Rattle.text.proofs.Tests.{tests}
 use Rattle.lines.proofs.rules.outside_limits.Statement.{statement}
 use Rattle.lines.proofs.rules.outside_limits.Tie as tie
 

@@ -1,7 +1,7 @@
 -- `pair_rule`: each return is the rule's answer under the tests and the meanings that led to it. Assumes nothing.
 use Rattle.lines.specs.declared.Step.{Step}
 use Rattle.lines.specs.Rules.{pairRule}
-use Rattle.lines.proofs.Tests.{tests}
+use Rattle.text.proofs.Tests.{tests}
 use borrow.Author.Tests.{le-ltb}
 use mathlib.Core.Path.{sym, ap, _∙_}
 use borrow.Author.Needs.{needs}

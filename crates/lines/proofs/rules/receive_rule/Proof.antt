@@ -1,6 +1,6 @@
 -- `receive_rule`: each return is the rule's answer under the tests and the meaning that led to it. Assumes nothing.
 use Rattle.lines.specs.Rules.{receiveRule}
-use Rattle.lines.proofs.Tests.{tests}
+use Rattle.text.proofs.Tests.{tests}
 use borrow.Author.Tests.{le-ltb, lt-leb}
 use mathlib.Core.Path.{sym, _∙_}
 use borrow.Author.Needs.{needs}
