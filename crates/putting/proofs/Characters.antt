@@ -7,7 +7,7 @@ use native.Mathlib.Numerals.{add-one}
 use native.Mathlib.Omega.{arith}
 use lib.ListN.{length, set, getD, drop, length-drop, drop-of-length-le}
 use lib.Seq.{drop-cons}
-use Rattle.lines.specs.Text.{lineFeed}
+use Rattle.text.specs.Text.{lineFeed}
 use Rattle.putting.specs.Characters.{digit, hexLine, hexLines}
 use Rattle.putting.specs.Put.{Room, Put}
 use Rattle.putting.proofs.Putting.{Left, left-none, left-store, left-room}

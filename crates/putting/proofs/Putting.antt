@@ -6,7 +6,7 @@ use mathlib.Core.List.{List, [], _∷_, _++_}
 use native.Mathlib.Omega.{arith}
 use lib.ListN.{length, set, length-append, length-set}
 use lib.Seq.{sets}
-use Rattle.lines.proofs.Lists.{sets-append}
+use Rattle.text.proofs.Lists.{sets-append}
 use Rattle.putting.specs.Put.{Room, Put}
 
 pub record Left (before : List ℕ) (at : ℕ) (xs : List ℕ) (buffer : List ℕ) (next : ℕ) (rest : List ℕ) : Type 0 where

@@ -7,7 +7,7 @@ use Prim.Native.String.{String}
 use mathlib.Core.Bool.{cond}
 use mathlib.Core.List.{List, [], _∷_, _++_}
 use lib.Dec.{ltb}
-use Rattle.lines.specs.Text.{lineFeed}
+use Rattle.text.specs.Text.{lineFeed}
 
 -- two bytes, high byte first
 abbrev pub twoBytes : ℕ → List ℕ

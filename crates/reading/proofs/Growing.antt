@@ -16,16 +16,17 @@ use Rattle.reading.specs.declared.Slot.{Slot}
 use Rattle.reading.specs.declared.cursor.Cursor.{Cursor}
 use Rattle.lines.specs.declared.Step.{Step}
 use Rattle.reading.specs.declared.tree.State.{State}
-use Rattle.lines.specs.Text.{rest}
+use Rattle.text.specs.Text.{rest}
+use Rattle.text.specs.Positions.{restAt}
 use Rattle.lines.specs.Frames.{faulty, fine}
 use Rattle.lines.specs.Scope.{Scope, inside}
 use Rattle.lines.specs.Line.{nextNode}
-use Rattle.lines.specs.Values.{restAt, stepOf}
+use Rattle.lines.specs.Values.{stepOf}
 use Rattle.lines.specs.Promise.{NodeFits}
 use Rattle.reading.specs.Tree.{Tree, silent, send, receive, sum, parallel, restriction, match, replication, bracket, branchCount, listing}
 use Rattle.reading.specs.Plan.{Outcome, refused, read, Place, onward, refuse, andThen, Grown, Reader, one, two, grow, readTree, slot}
 use Rattle.reading.specs.inner.Working.{StandsIn, placeAt, Past, Grows, GrowsOn, Branches}
-use Rattle.lines.proofs.Lists.{sets-append}
+use Rattle.text.proofs.Lists.{sets-append}
 use Rattle.lines.proofs.Promise.{rest-split, step-faulty, step-found, node-fits}
 
 -- ---- one line on

@@ -2,7 +2,10 @@
 mod Growing
 mod Naming
 mod Offering
+mod Repeating
+mod Labelling
 mod TreeWithin
+mod LabelsWithin
 pub mod Promise
 mod Whole
 pub mod Listing

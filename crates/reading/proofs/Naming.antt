@@ -6,6 +6,7 @@ use mathlib.Core.Bool.{true, false}
 use mathlib.Core.List.{List}
 use native.Mathlib.Numerals.{add-one, sub-one}
 use lib.ListN.{set}
+use Rattle.text.specs.Positions.{restAt}
 use Rattle.lines.specs.declared.FreeName.{FreeName}
 use Rattle.lines.specs.declared.Head.{Head}
 use Rattle.lines.specs.declared.Marker.the-variants.{Channel}
@@ -15,7 +16,7 @@ use Rattle.lines.specs.declared.Entry.{Entry}
 use Rattle.lines.specs.Frames.{Judged, faulty, fine}
 use Rattle.lines.specs.Scope.{giving}
 use Rattle.lines.specs.Line.{nextName}
-use Rattle.lines.specs.Values.{restAt, entryOf, meaningIn}
+use Rattle.lines.specs.Values.{entryOf, meaningIn}
 use Rattle.lines.specs.Promise.{LineWhole}
 use Rattle.reading.specs.Plan.{Outcome, refused, read, Place, onward, refuse, andThen, Named, before, readNames}
 use Rattle.reading.specs.inner.Working.{StandsIn, placeAt, Past, Gathers}

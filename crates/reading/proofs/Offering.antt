@@ -11,10 +11,11 @@ use Rattle.lines.specs.declared.Offer.{Offer}
 use Rattle.lines.specs.declared.Offering.{Offering}
 use Rattle.reading.specs.declared.Refusal.{Refusal}
 use Rattle.reading.specs.declared.offers.Offers.{Offers}
-use Rattle.lines.specs.Text.{Line, rest}
+use Rattle.text.specs.Text.{Line, rest}
+use Rattle.text.specs.Positions.{restAt}
 use Rattle.lines.specs.Frames.{frameIn, Judged, faulty, fine, Next, here, over}
 use Rattle.lines.specs.Line.{nextOffer}
-use Rattle.lines.specs.Values.{restAt, offeringOf}
+use Rattle.lines.specs.Values.{offeringOf}
 use Rattle.lines.specs.Promise.{Gives, OnLine, LineWhole, OfferWithin, NextWithin}
 use Rattle.reading.specs.Plan.{Outcome, refused, read, Place, refuse, andThen, Offered, offersFrom, readOffers}
 use Rattle.reading.specs.inner.Working.{StandsIn, Past, Lays}
@@ -72,7 +73,7 @@ module _ (s : List ℕ) (h : Head) (least : ℕ) (state r : Offers) (k : Offerin
     pub offer-good : OfferWithin h least offer
     offer-good =
         let left = restAt s (state .cursor .at) in
-        subst (Gives (OnLine left (NextWithin h least))) found (offer-given left h least) .0
+        subst (Gives (OnLine left (NextWithin (OfferWithin h least)))) found (offer-given left h least) .0
 
     pub offers-on : (next : Offers) → Past s (state .cursor) (next .cursor) → next .row ≡ set (state .row) (offer .channel) (offer .set)
         → Lays s next (readOffers h (offer .channel + 1) (next .cursor .line) (restAt s (next .cursor .at))) r

@@ -13,15 +13,16 @@ use lib.Seq.{take-all, length-take-le}
 use borrow.Author.Tests.{ne-eqb, lt-ltb, ltb-false}
 use Rattle.lines.specs.declared.Head.{Head}
 use Rattle.limits.specs.Limits.{longest, mostDepth}
-use Rattle.lines.specs.Text.{Line, lineFeed, inFront, linesOf}
+use Rattle.text.specs.Text.{Line, lineFeed, inFront, linesOf}
 use Rattle.lines.specs.Scope.{noNames, naming}
 use Rattle.lines.specs.Line.{firstHead}
 use Rattle.lines.specs.Promise.{OnLine, HeadWithin}
 use Rattle.lines.proofs.Promise.{head-given, nothing-within}
 use Rattle.reading.specs.declared.Reading.{Reading}
-use Rattle.reading.specs.Plan.{Outcome, refused, read, Place, onward, readNames, readOffers, readTree, Plan, closed, afterHead, readPlan, wrongLength, planIn, readingOf}
+use Rattle.reading.specs.Plan.{Outcome, refused, read, Place, onward, readNames, readOffers, readLabels, readTree, Plan, closed, afterHead, readPlan, wrongLength, planIn, readingOf}
 use Rattle.reading.specs.Promise.{NamesWithin, givenBy, PlanWithin, Kept}
 use Rattle.reading.proofs.TreeWithin.{Numbered, Ends, ends-then, ends-judged, numbered-on, names-within, OffersGood, offers-within, naming-within, TreeGood, tree-within}
+use Rattle.reading.proofs.LabelsWithin.{LabelsGood, labels-within}
 
 -- a text has no more lines than characters
 few-lines : (s : List ℕ) → length (linesOf s) ≤ length s
@@ -50,21 +51,26 @@ after-within m h place within numbered =
     let given = givenBy (n .names) [] in
     let scope = naming noNames (n .names) in
     let named = naming-within h [] noNames 0 (n .names) (nothing-within h) (w .1) in
-    ends-then m (TreeGood m h given mostDepth 0) PlanWithin (readTree mostDepth h scope 0 (o .after)) _
-    (tree-within m h given mostDepth scope 0 (o .after) named (v .1))
+    ends-then m (LabelsGood h m within) PlanWithin (readLabels h 0 [] (o .after .line) (o .after .left)) _
+    (labels-within h m within [] (o .after .line) (o .after .left) tt (v .1) 0 refl)
+    (λ l u.
+    ends-then m (TreeGood m h given mostDepth 0) PlanWithin (readTree mostDepth h scope 0 (l .after)) _
+    (tree-within m h given mostDepth scope 0 (l .after) named (u .2))
     (λ g t.
-    let plan : Plan = record { head = h; names = n .names; offers = o .offers; tree = g .tree } in
+    let plan : Plan = record { head = h; names = n .names; offers = o .offers; labels = l .labels; tree = g .tree } in
     closed-within m (g .after) (g .after .left) plan (t .numbered)
     (record {
       head = within;
       counted = w .0;
       names = w .1;
       offers = v .0;
+      labels = u .0;
+      labelled = u .1;
       nodes = t .nodes;
       few = let room = t .few in omega arith;
       shallow = t .shallow;
       scoped = t .scoped;
-    }))))
+    })))))
 
 plan-within : (m : ℕ) (place : Place) → Numbered m place → Ends m PlanWithin (readPlan place)
 unfolding readPlan

@@ -14,7 +14,7 @@ use Rattle.lines.specs.declared.Node.{Node}
 use Rattle.lines.specs.declared.Offer.{Offer}
 use Rattle.lines.specs.declared.Node.the-variants.{Nil, Silent, Send, Receive, Sum, Parallel, Restriction, Match, Replication, Bracket}
 use Rattle.limits.specs.Limits.{mostNodes}
-use Rattle.lines.specs.Text.{Line, rest}
+use Rattle.text.specs.Text.{Line, rest}
 use Rattle.lines.specs.Frames.{Judged, faulty, fine, Next, here, over}
 use Rattle.lines.specs.Scope.{Scope, giving, naming, inside}
 use Rattle.lines.specs.Line.{nextName, nextOffer, nextNode}
@@ -77,7 +77,7 @@ module _ (m : ℕ) (h : Head) where
 
   from-within : (least : ℕ) (place : Place) (behind : Offer → Outcome Offered) → Numbered m place
       → ((offer : Offer) → OfferWithin h least offer → Ends m (OffersGood (offer .channel + 1)) (behind offer))
-      → (next : Next Offer) → NextWithin h least next → Ends m (OffersGood least) (offersFrom place behind next)
+      → (next : Next Offer) → NextWithin (OfferWithin h least) next → Ends m (OffersGood least) (offersFrom place behind next)
   from-within least place behind numbered good (here offer) w =
       ends-then m (OffersGood (offer .channel + 1)) (OffersGood least) (behind offer) _ (good offer w) (λ o g. ((w, g .0), g .1))
   from-within least place behind numbered good over w = (tt, numbered)
@@ -87,7 +87,7 @@ module _ (m : ℕ) (h : Head) where
   offers-within least line [] numbered = record { number = omega arith; line = omega arith }
   offers-within least line (l ∷ ls) numbered =
       let place : Place = record { line = line; left = l ∷ ls } in
-      ends-judged m (OnLine (l ∷ ls) (NextWithin h least)) (OffersGood least) place (nextOffer h least (l ∷ ls)) _ numbered (offer-given (l ∷ ls) h least)
+      ends-judged m (OnLine (l ∷ ls) (NextWithin (OfferWithin h least))) (OffersGood least) place (nextOffer h least (l ∷ ls)) _ numbered (offer-given (l ∷ ls) h least)
       (λ next w. from-within least place _ numbered
       (λ offer good. offers-within (offer .channel + 1) (line + 1) ls (omega arith)) next (w .0))
 

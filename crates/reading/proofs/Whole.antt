@@ -1,13 +1,14 @@
--- The whole text, by what the sections gave: free names, then offers, then a tree, then nothing more. Assumes nothing.
+-- The whole text, by what the sections gave: free names, then offers, then labels, then a tree, then nothing more. Assumes nothing.
 use Prim.Native.Nat.{ℕ, _+_, _≤_, _<_}
 use mathlib.Core.Path.{_≡_, refl, sym, ap, _∙_, subst}
 use mathlib.Core.Bool.{Bool, true, false}
-use mathlib.Core.List.{List, _++_, map}
+use mathlib.Core.List.{List, [], _++_, map}
 use native.Mathlib.Omega.{arith}
 use lib.Dec.{ltb, eqb}
 use lib.ListN.{length, drop, length-map, replicate, length-replicate}
 use lib.Seq.{sets, sets-eq}
 use borrow.Author.Tests.{ltb-false}
+use Rattle.text.specs.Positions.{restAt}
 use Rattle.lines.specs.declared.Head.{Head}
 use Rattle.lines.specs.declared.Node.the-variants.{Nil}
 use Rattle.lines.specs.declared.Opening.{Opening}
@@ -15,23 +16,24 @@ use Rattle.limits.specs.Limits.{longest, mostNames, mostNodes, mostDepth}
 use Rattle.lines.specs.Frames.{fine}
 use Rattle.lines.specs.Scope.{noNames, naming}
 use Rattle.lines.specs.Line.{firstHead}
-use Rattle.lines.specs.Values.{restAt, openingOf, meaningIn}
+use Rattle.lines.specs.Values.{padded, openingOf, meaningIn}
 use Rattle.lines.specs.Promise.{Gives, OnLine, LineWhole, HeadWithin}
-use Rattle.lines.proofs.Lists.{drop-replicate}
-use Rattle.lines.proofs.Tests.{or-false}
+use Rattle.text.proofs.Lists.{drop-replicate}
+use Rattle.text.proofs.Tests.{or-false}
 use Rattle.lines.proofs.Promise.{rest-none, rest-split, opening-faulty, opening-found, head-given, head-whole}
 use Rattle.reading.specs.declared.Reading.{Reading}
 use Rattle.reading.specs.declared.Refusal.{Refusal}
 use Rattle.reading.specs.declared.Slot.{Slot}
 use Rattle.reading.specs.declared.cursor.Cursor.{Cursor}
+use Rattle.reading.specs.declared.labels.Labels.{Labels}
 use Rattle.reading.specs.declared.names.Names.{Names}
 use Rattle.reading.specs.declared.offers.Offers.{Offers}
 use Rattle.reading.specs.declared.tree.State.{State}
 use Rattle.reading.specs.Tree.{listing}
-use Rattle.reading.specs.Plan.{Outcome, refused, read, Place, Named, readNames, Offered, readOffers, Grown, readTree, Plan}
-use Rattle.reading.specs.Plan.{closed, afterHead, readPlan, wrongLength, planIn, padded, noName, slot, noRefusal, laying, offerRow, readingOf}
+use Rattle.reading.specs.Plan.{Outcome, refused, read, Place, Named, readNames, Offered, readOffers, Labelled, readLabels, Grown, readTree, Plan}
+use Rattle.reading.specs.Plan.{closed, afterHead, readPlan, wrongLength, planIn, noName, slot, noRefusal, laying, offerRow, readingOf}
 use Rattle.reading.specs.Promise.{PlanWithin}
-use Rattle.reading.specs.inner.Working.{StandsIn, placeAt, Past, FreshNames, Gathered, Gathers, FreshOffers, Laid, Lays, FreshState, Grew, Grows}
+use Rattle.reading.specs.inner.Working.{StandsIn, placeAt, Past, FreshNames, Gathered, Gathers, FreshOffers, Laid, Lays, FreshLabels, Listed, Lists, FreshState, Grew, Grows}
 use Rattle.reading.proofs.Growing.{onward-past, true-not-false}
 use Rattle.reading.proofs.TreeWithin.{Ends}
 use Rattle.reading.proofs.Promise.{after-within}
@@ -105,65 +107,107 @@ module _ (s : List ℕ) (h : Head) (cursor : Cursor) (within : HeadWithin h)
         pub offers-stand : StandsIn s (offers .cursor)
         offers-stand = offered .2 .stands
 
-        module _ (bare state : State) (clear : FreshState (offers .cursor) bare)
-            (grows : Grows s (bare .nodes) (bare .count) (readTree mostDepth h (meaningIn (names .scope)) (bare .count) (placeAt s (bare .cursor))) state) where
-          scope-there : meaningIn (names .scope) ≡ naming noNames (done .0 .names)
-          scope-there = done .2 .scope ∙ ap (λ z. naming z (done .0 .names)) (fresh .scope)
+        module _ (unlabelled labels : Labels) (empty-labels : FreshLabels (offers .cursor) unlabelled)
+            (lists : Lists s (readLabels h 0 [] (unlabelled .cursor .line) (restAt s (unlabelled .cursor .at))) labels) where
+          reads-labels : Outcome Labelled
+          reads-labels = readLabels h 0 [] (offered .0 .after .line) (offered .0 .after .left)
 
-          reads-tree : Outcome Grown
-          reads-tree = readTree mostDepth h (naming noNames (done .0 .names)) 0 (offered .0 .after)
+          labels-end : (labels .good ≡ false → reads-labels ≡ refused (labels .refusal))
+              × (labels .good ≡ true → (n : Labelled) × (reads-labels ≡ read n) × Listed s n labels)
+          unfolding reads-labels
+          labels-end =
+              let place = sym (offered .2 .place ∙ ap (placeAt s) (sym (empty-labels .there))) in
+              let there = subst (λ (p : Place). Lists s (readLabels h 0 [] (p .line) (p .left)) labels) place lists in
+              ended (λ o. Lists s o labels) (labels .good) (labels .refusal) (λ f w. w) (λ n w. w .good) reads-labels there
 
-          fresh-nodes : List Slot
-          fresh-nodes = replicate mostNodes (slot Nil)
+          pub after-labels : labels .good ≡ false → refused (labels .refusal) ≡ afterHead h (placeAt s cursor)
+          unfolding afterHead reads-names reads-offers reads-labels
+          after-labels e = sym (rw (done .1, offered .1, labels-end .0 e))
 
-          tree-end : (state .good ≡ false → reads-tree ≡ refused (state .refusal))
-              × (state .good ≡ true → (g : Grown) × (reads-tree ≡ read g) × Grew s fresh-nodes 0 g state)
-          unfolding reads-tree fresh-nodes
-          tree-end =
-              let there = rw (clear .nodes, clear .none, clear .there, scope-there, ← offered .2 .place) at grows in
-              ended (λ o. Grows s fresh-nodes 0 o state) (state .good) (state .refusal) (λ f w. w) (λ n w. w .good) reads-tree there
+          module _ (listed : labels .good ≡ true) where
+            labelled : (n : Labelled) × (reads-labels ≡ read n) × Listed s n labels
+            labelled = labels-end .1 listed
 
-          pub after-tree : state .good ≡ false → refused (state .refusal) ≡ afterHead h (placeAt s cursor)
-          unfolding afterHead reads-names reads-offers reads-tree
-          after-tree e = sym (rw (done .1, offered .1, tree-end .0 e))
+            pub labels-stand : StandsIn s (labels .cursor)
+            labels-stand = labelled .2 .stands
 
-          module _ (grown : state .good ≡ true) where
-            whole : (g : Grown) × (reads-tree ≡ read g) × Grew s fresh-nodes 0 g state
-            whole = tree-end .1 grown
+            module _ (bare state : State) (clear : FreshState (labels .cursor) bare)
+                (grows : Grows s (bare .nodes) (bare .count) (readTree mostDepth h (meaningIn (names .scope)) (bare .count) (placeAt s (bare .cursor))) state) where
+              scope-there : meaningIn (names .scope) ≡ naming noNames (done .0 .names)
+              scope-there = done .2 .scope ∙ ap (λ z. naming z (done .0 .names)) (fresh .scope)
 
-            plan : Plan
-            plan = record { head = h; names = done .0 .names; offers = offered .0 .offers; tree = whole .0 .tree }
+              reads-tree : Outcome Grown
+              reads-tree = readTree mostDepth h (naming noNames (done .0 .names)) 0 (labelled .0 .after)
 
-            ends : afterHead h (placeAt s cursor) ≡ closed (placeAt s (state .cursor)) (restAt s (state .cursor .at)) plan
-            unfolding afterHead reads-names reads-offers reads-tree plan
-            ends = rw (done .1, offered .1, whole .1, whole .2 .place)
+              fresh-nodes : List Slot
+              fresh-nodes = replicate mostNodes (slot Nil)
 
-            pub after-more : state .cursor .at < length s → refused (record { number = 13; line = state .cursor .line }) ≡ afterHead h (placeAt s cursor)
-            after-more l = sym (ends ∙ rw (rest-split s (state .cursor .at) l))
+              tree-end : (state .good ≡ false → reads-tree ≡ refused (state .refusal))
+                  × (state .good ≡ true → (g : Grown) × (reads-tree ≡ read g) × Grew s fresh-nodes 0 g state)
+              unfolding reads-tree fresh-nodes
+              tree-end =
+                  let there = rw (clear .nodes, clear .none, clear .there, scope-there, ← labelled .2 .place) at grows in
+                  ended (λ o. Grows s fresh-nodes 0 o state) (state .good) (state .refusal) (λ f w. w) (λ n w. w .good) reads-tree there
 
-            pub after-all : (r : Reading) → length s ≤ state .cursor .at
-                → r ≡ record { refusal = noRefusal; head = h; names = names .names; offers = offers .row; count = state .count; nodes = state .nodes }
-                → r ≡ readingOf (afterHead h (placeAt s cursor))
-            unfolding plan fresh-nodes
-            after-all r l made =
-                let all : afterHead h (placeAt s cursor) ≡ read plan = ends ∙ rw (rest-none s (state .cursor .at) l) in
-                let m = cursor .line + length (restAt s (cursor .at)) in
-                let w : PlanWithin plan = subst (Ends m PlanWithin) all (after-within m h (placeAt s cursor) within (omega arith)) in
-                let counted : length (done .0 .names) ≡ h .names = w .counted in
-                let few : length (listing (whole .0 .tree)) ≤ mostNodes = w .few in
-                let room : h .names ≤ mostNames = within .names in
-                let listed : names .names ≡ padded mostNames noName (done .0 .names) =
-                done .2 .names
-                ∙ ap (λ l. sets l (none .count) (done .0 .names)) (fresh .names)
-                ∙ ap (λ k. sets (replicate mostNames noName) k (done .0 .names)) (fresh .none)
-                ∙ pad mostNames noName (done .0 .names) (omega arith) in
-                let row : offers .row ≡ offerRow (offered .0 .offers) = offered .2 .row ∙ ap (λ l. laying l (offered .0 .offers)) (empty .row) in
-                let total : state .count ≡ length (listing (whole .0 .tree)) = whole .2 .count ∙ omega arith in
-                let nodes : state .nodes ≡ padded mostNodes (slot Nil) (map slot (listing (whole .0 .tree))) =
-                whole .2 .nodes ∙ pad mostNodes (slot Nil) (map slot (listing (whole .0 .tree))) (rw (length-map (listing (whole .0 .tree)) slot) few) in
-                made
-                ∙ (λ i. record { refusal = noRefusal; head = h; names = listed i; offers = row i; count = total i; nodes = nodes i })
-                ∙ ap readingOf (sym all)
+              pub after-tree : state .good ≡ false → refused (state .refusal) ≡ afterHead h (placeAt s cursor)
+              unfolding afterHead reads-names reads-offers reads-labels reads-tree
+              after-tree e = sym (rw (done .1, offered .1, labelled .1, tree-end .0 e))
+
+              module _ (grown : state .good ≡ true) where
+                whole : (g : Grown) × (reads-tree ≡ read g) × Grew s fresh-nodes 0 g state
+                whole = tree-end .1 grown
+
+                plan : Plan
+                plan = record { head = h; names = done .0 .names; offers = offered .0 .offers; labels = labelled .0 .labels; tree = whole .0 .tree }
+
+                ends : afterHead h (placeAt s cursor) ≡ closed (placeAt s (state .cursor)) (restAt s (state .cursor .at)) plan
+                unfolding afterHead reads-names reads-offers reads-labels reads-tree plan
+                ends = rw (done .1, offered .1, labelled .1, whole .1, whole .2 .place)
+
+                pub after-more : state .cursor .at < length s → refused (record { number = 13; line = state .cursor .line }) ≡ afterHead h (placeAt s cursor)
+                after-more l = sym (ends ∙ rw (rest-split s (state .cursor .at) l))
+
+                pub after-all : (r : Reading) → length s ≤ state .cursor .at
+                    → r ≡ record {
+                      refusal = noRefusal;
+                      head = h;
+                      names = names .names;
+                      offers = offers .row;
+                      labelled = labels .count;
+                      labels = labels .labels;
+                      count = state .count;
+                      nodes = state .nodes;
+                    }
+                    → r ≡ readingOf (afterHead h (placeAt s cursor))
+                unfolding plan fresh-nodes
+                after-all r l made =
+                    let all : afterHead h (placeAt s cursor) ≡ read plan = ends ∙ rw (rest-none s (state .cursor .at) l) in
+                    let m = cursor .line + length (restAt s (cursor .at)) in
+                    let w : PlanWithin plan = subst (Ends m PlanWithin) all (after-within m h (placeAt s cursor) within (omega arith)) in
+                    let counted : length (done .0 .names) ≡ h .names = w .counted in
+                    let few : length (listing (whole .0 .tree)) ≤ mostNodes = w .few in
+                    let room : h .names ≤ mostNames = within .names in
+                    let shown : names .names ≡ padded mostNames noName (done .0 .names) =
+                    done .2 .names
+                    ∙ ap (λ l. sets l (none .count) (done .0 .names)) (fresh .names)
+                    ∙ ap (λ k. sets (replicate mostNames noName) k (done .0 .names)) (fresh .none)
+                    ∙ pad mostNames noName (done .0 .names) (omega arith) in
+                    let row : offers .row ≡ offerRow (offered .0 .offers) = offered .2 .row ∙ ap (λ l. laying l (offered .0 .offers)) (empty .row) in
+                    let total : state .count ≡ length (listing (whole .0 .tree)) = whole .2 .count ∙ omega arith in
+                    let nodes : state .nodes ≡ padded mostNodes (slot Nil) (map slot (listing (whole .0 .tree))) =
+                    whole .2 .nodes ∙ pad mostNodes (slot Nil) (map slot (listing (whole .0 .tree))) (rw (length-map (listing (whole .0 .tree)) slot) few) in
+                    made
+                    ∙ (λ i. record {
+                      refusal = noRefusal;
+                      head = h;
+                      names = shown i;
+                      offers = row i;
+                      labelled = labelled .2 .count i;
+                      labels = labelled .2 .labels i;
+                      count = total i;
+                      nodes = nodes i;
+                    })
+                    ∙ ap readingOf (sym all)
 
 -- ---- the whole text, by what the first line said
 

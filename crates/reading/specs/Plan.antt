@@ -1,22 +1,25 @@
--- Document 01, 'Plan text' and 'Refusal numbers', and document 02's order 1: from a text to a plan or its one refusal, line by line in order; what one
--- line says is the crate `lines`.
+-- Document 01, 'Plan text' and 'Refusal numbers', and document 02's orders 1 and 2: from a text to a plan or its one refusal, line by line in order;
+-- what one line says is the crate `lines`.
 -- Assumes nothing.
-use Prim.Native.Nat.{ℕ, zero, suc, _+_, _-_}
-use mathlib.Core.Bool.{Bool, cond, _||_}
+use Prim.Native.Nat.{ℕ, zero, suc, _+_}
+use mathlib.Core.Bool.{Bool, true, false, cond, _&&_, _||_}
 use mathlib.Core.List.{List, [], _∷_, _++_, map}
 use lib.ListN.{length, replicate, set}
 use lib.Dec.{ltb, eqb}
 use Rattle.lines.specs.declared.FreeName.{FreeName}
 use Rattle.lines.specs.declared.Head.{Head}
+use Rattle.lines.specs.declared.Label.{Label}
 use Rattle.lines.specs.declared.Node.{Node}
 use Rattle.lines.specs.declared.Offer.{Offer}
 use Rattle.lines.specs.declared.Node.the-variants.{Nil, Silent, Send, Receive, Sum, Parallel, Restriction, Match, Replication, Bracket}
 use Rattle.sets.specs.Rows.{SetRow, emptyRow}
-use Rattle.limits.specs.Limits.{longest, mostChannels, mostNames, mostNodes, mostDepth}
-use Rattle.lines.specs.Text.{Line, linesOf, rest}
+use Rattle.limits.specs.Limits.{longest, mostChannels, mostNames, mostLabels, mostNodes, mostDepth}
+use Rattle.text.specs.Text.{Line, linesOf, rest}
 use Rattle.lines.specs.Frames.{Judged, faulty, fine, Next, here, over}
 use Rattle.lines.specs.Scope.{Scope, noNames, naming, inside}
-use Rattle.lines.specs.Line.{firstHead, nextName, nextOffer, nextNode}
+use Rattle.lines.specs.Labels.{placeAmong, labelBytes}
+use Rattle.lines.specs.Line.{firstHead, nextName, nextOffer, nextLabel, nextNode}
+use Rattle.lines.specs.Values.{padded, noLabel}
 use Rattle.reading.specs.declared.Reading.{Reading}
 use Rattle.reading.specs.declared.Refusal.{Refusal}
 use Rattle.reading.specs.declared.Slot.{Slot}
@@ -87,6 +90,45 @@ readOffers h least line (l ∷ ls) =
     let place : Place = record { line = line; left = l ∷ ls } in
     judged place (nextOffer h least (l ∷ ls)) (offersFrom place λ offer. readOffers h (offer .channel + 1) (line + 1) ls)
 
+-- ---- the labels
+
+-- byte for byte the same
+unfoldable pub sameBytes : List ℕ → List ℕ → Bool
+sameBytes [] [] = true
+sameBytes [] (y ∷ ys) = false
+sameBytes (x ∷ xs) [] = false
+sameBytes (x ∷ xs) (y ∷ ys) = eqb x y && sameBytes xs ys
+
+-- a label is of this kind and has these bytes, whole and not shortened
+unfoldable pub isSame : ℕ → List ℕ → Label → Bool
+isSame kind bytes other = eqb (other .kind) kind && sameBytes (labelBytes other) bytes
+
+-- one of those before is
+unfoldable pub isRepeated : ℕ → List ℕ → List Label → Bool
+isRepeated kind bytes [] = false
+isRepeated kind bytes (other ∷ others) = isSame kind bytes other || isRepeated kind bytes others
+
+-- labels, and where reading stands behind them
+pub record Labelled : Type 0 where
+  pub labels : List Label
+  pub after : Place
+
+-- a label behind those before it, and then the rest, or 18; no more, where the labels are over
+abbrev pub labelsOn : Place → List Label → (Label → Outcome Labelled) → Next Label → Outcome Labelled
+labelsOn place so-far behind (here label) =
+    let more = behind label in
+    cond (isRepeated (label .kind) (labelBytes label) so-far) (refuse place 18) more
+labelsOn place so-far behind over = read (record { labels = so-far; after = place })
+
+-- the labels `so-far`, and behind them those that stand on these lines, the first of which has the number `line`: of things whose places are `least`
+-- or more, strictly ascending; 12 where no line is left
+unfoldable pub readLabels : Head → ℕ → List Label → ℕ → List Line → Outcome Labelled
+readLabels h least so-far line [] = refuse (record { line = line; left = [] }) 12
+readLabels h least so-far line (l ∷ ls) =
+    let place : Place = record { line = line; left = l ∷ ls } in
+    judged place (nextLabel h least (l ∷ ls))
+    (labelsOn place so-far λ label. readLabels h (placeAmong (label .kind) (label .number) + 1) (so-far ++ (label ∷ [])) (line + 1) ls)
+
 -- ---- the tree
 
 -- a tree, and where reading stands behind it
@@ -130,11 +172,12 @@ readTree (suc depth) h scope count place =
 
 -- ---- the whole text
 
--- a plan: its head, its free names, its offers and its tree
+-- a plan: its head, its free names, its offers, its labels and its tree
 pub record Plan : Type 0 where
   pub head : Head
   pub names : List FreeName
   pub offers : List Offer
+  pub labels : List Label
   pub tree : Tree
 
 -- the tree has closed: 13 where a line is left, without looking at it
@@ -142,14 +185,15 @@ abbrev pub closed : Place → List Line → Plan → Outcome Plan
 closed place [] plan = read plan
 closed place (l ∷ ls) plan = refuse place 13
 
--- what follows the head: the free names, the offers, the tree, and nothing more
+-- what follows the head: the free names, the offers, the labels, the tree, and nothing more
 unfoldable pub afterHead : Head → Place → Outcome Plan
 afterHead h place =
     andThen (readNames (h .names) h 0 place) λ named.
     andThen (readOffers h 0 (named .after .line) (named .after .left)) λ offered.
-    andThen (readTree mostDepth h (naming noNames (named .names)) 0 (offered .after)) λ grown.
+    andThen (readLabels h 0 [] (offered .after .line) (offered .after .left)) λ labelled.
+    andThen (readTree mostDepth h (naming noNames (named .names)) 0 (labelled .after)) λ grown.
     closed (grown .after) (grown .after .left)
-    (record { head = h; names = named .names; offers = offered .offers; tree = grown .tree })
+    (record { head = h; names = named .names; offers = offered .offers; labels = labelled .labels; tree = grown .tree })
 
 unfoldable pub readPlan : Place → Outcome Plan
 readPlan place = judged place (firstHead (place .left)) λ h. afterHead h (onward place)
@@ -166,10 +210,6 @@ planIn text =
     (readPlan (record { line = 1; left = linesOf text }))
 
 -- ---- what the reader returns
-
--- unused places hold zero, or nil for a node
-unfoldable pub padded : {A : Type 0} → ℕ → A → List A → List A
-padded n d xs = xs ++ replicate (n - length xs) d
 
 abbrev pub noName : FreeName
 noName = record { name = 0; channel = 0 }
@@ -200,6 +240,8 @@ readingOf (refused f) =
       head = noHead;
       names = replicate mostNames noName;
       offers = offerRow [];
+      labelled = 0;
+      labels = replicate mostLabels noLabel;
       count = 0;
       nodes = replicate mostNodes (slot Nil);
     }
@@ -209,6 +251,8 @@ readingOf (read p) =
       head = p .head;
       names = padded mostNames noName (p .names);
       offers = offerRow (p .offers);
+      labelled = length (p .labels);
+      labels = padded mostLabels noLabel (p .labels);
       count = length (listing (p .tree));
       nodes = padded mostNodes (slot Nil) (map slot (listing (p .tree)));
     }

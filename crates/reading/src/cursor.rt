@@ -2,10 +2,10 @@
 ghost use mathlib.Core.Path.{_≡_};
 ghost use Prim.Native.Nat.{_<_};
 ghost use lib.ListN.{length};
-ghost use Rattle.lines.specs.Values.{endAt};
+ghost use Rattle.text.specs.Positions.{endAt};
 ghost use Rattle.reading.specs.inner.Working.{StandsIn, Past};
 use crate::Refusal;
-use lines::text::line_end;
+use text::line_end;
 
 // The position of a line's start, and the line's number.
 pub(crate) struct Cursor {

@@ -1,13 +1,15 @@
 // Reads a plan text: every text gets a reading, or one numbered refusal by the order of documents 01 and 02.
-// The way of the data: cursor (where reading stands), names, offers and tree (the sections, read line by line by the crate `lines`), and the whole text
-// here. Proved: `read` returns the document's reading of the text.
+// The way of the data: cursor (where reading stands), names, offers, labels and tree (the sections, read line by line by the crate `lines`), and the
+// whole text here. Proved: `read` returns the document's reading of the text.
 ghost use mathlib.Core.Path.{_≡_};
 ghost use Rattle.lines.specs.Promise.{HeadWithin};
 ghost use Rattle.reading.specs.Plan.{Outcome, wrongLength, afterHead, planIn, readingOf};
-ghost use Rattle.reading.specs.inner.Working.{StandsIn, placeAt, FreshNames, FreshOffers, FreshState};
+ghost use Rattle.reading.specs.inner.Working.{StandsIn, placeAt, FreshNames, FreshOffers, FreshLabels, FreshState};
 use crate::cursor::Cursor;
 use crate::cursor::past;
 use crate::cursor::refuse;
+use crate::labels::Labels;
+use crate::labels::read_labels;
 use crate::names::Names;
 use crate::names::read_names;
 use crate::offers::Offers;
@@ -17,17 +19,21 @@ use crate::tree::read_node;
 use limits::CHANNEL_SETS;
 use limits::LONGEST;
 use limits::MOST_DEPTH;
+use limits::MOST_LABELS;
 use limits::MOST_NAMES;
 use limits::MOST_NODES;
 use lines::FreeName;
 use lines::Head;
+use lines::Label;
 use lines::Node;
 use lines::Opening;
 use lines::first_head;
+use lines::labels::no_label;
 use lines::scope::no_names;
 use sets::Set;
 
 mod cursor;
+mod labels;
 mod names;
 mod offers;
 mod tree;
@@ -43,13 +49,15 @@ pub struct Refusal {
     pub line: u16,
 }
 
-// What a text says, with a set for each channel of the handles that are offered on it. Unused places hold zero, or nil for a node, and an empty
-// set where nothing is offered; a refused text says nothing.
+// What a text says, with a set for each channel of the handles that are offered on it, and so many labels and nodes in text order. Unused places
+// hold zero, or nil for a node, and an empty set where nothing is offered; a refused text says nothing.
 pub struct Reading {
     pub refusal: Refusal,
     pub head: Head,
     pub names: [FreeName; MOST_NAMES],
     pub offers: [Set; CHANNEL_SETS],
+    pub labelled: usize,
+    pub labels: [Label; MOST_LABELS],
     pub count: usize,
     pub nodes: [Slot; MOST_NODES],
 }
@@ -72,6 +80,8 @@ fn refused(refusal: Refusal) -> Reading
     let names = [name; MOST_NAMES];
     let none = sets::empty();
     let offers = [none; CHANNEL_SETS];
+    let label = no_label();
+    let labels = [label; MOST_LABELS];
     let slot = Slot { node: Node::Nil };
     let nodes = [slot; MOST_NODES];
     Reading {
@@ -84,6 +94,8 @@ fn refused(refusal: Refusal) -> Reading
         },
         names,
         offers,
+        labelled: 0,
+        labels,
         count: 0,
         nodes,
     }
@@ -122,6 +134,22 @@ fn fresh_offers(cursor: Cursor) -> Offers
     }
 }
 
+// No label yet.
+fn fresh_labels(cursor: Cursor) -> Labels
+    ensures { λ r. ⌜ FreshLabels cursor r ⌝ }
+{
+    let label = no_label();
+    let labels = [label; MOST_LABELS];
+    Labels {
+        good: true,
+        refusal: no_refusal(),
+        cursor,
+        least: 0,
+        count: 0,
+        labels,
+    }
+}
+
 // No node yet.
 fn fresh_state(cursor: Cursor) -> State
     ensures { λ r. ⌜ FreshState cursor r ⌝ }
@@ -150,8 +178,12 @@ fn after_head(text: &[u8], head: Head, cursor: Cursor) -> Reading
     if !offers.good {
         return refused(offers.refusal);
     }
+    let labels = read_labels(text, head, fresh_labels(offers.cursor));
+    if !labels.good {
+        return refused(labels.refusal);
+    }
     let scope = names.scope;
-    let state = read_node(text, head, scope, MOST_DEPTH, fresh_state(offers.cursor));
+    let state = read_node(text, head, scope, MOST_DEPTH, fresh_state(labels.cursor));
     if !state.good {
         return refused(state.refusal);
     }
@@ -161,12 +193,15 @@ fn after_head(text: &[u8], head: Head, cursor: Cursor) -> Reading
     }
     let listed = names.names;
     let offered = offers.row;
+    let shown = labels.labels;
     let nodes = state.nodes;
     Reading {
         refusal: no_refusal(),
         head,
         names: listed,
         offers: offered,
+        labelled: labels.count,
+        labels: shown,
         count: state.count,
         nodes,
     }

@@ -1,7 +1,7 @@
 // The offers, read one after the other up to the first line of a later section.
 ghost use mathlib.Core.Path.{_≡_};
 ghost use mathlib.Core.Bool.{true, false};
-ghost use Rattle.lines.specs.Values.{restAt};
+ghost use Rattle.text.specs.Positions.{restAt};
 ghost use Rattle.lines.specs.Promise.{HeadWithin};
 ghost use Rattle.reading.specs.Plan.{readOffers};
 ghost use Rattle.reading.specs.inner.Working.{StandsIn, Lays};

@@ -10,7 +10,8 @@ use Rattle.lines.specs.declared.Node.{Node}
 use Rattle.lines.specs.declared.Node.the-variants.{Nil}
 use Rattle.reading.specs.declared.Reading.{Reading}
 use Rattle.reading.specs.declared.Slot.{Slot}
-use Rattle.reading.specs.Plan.{Outcome, refused, read, Plan, padded, slot, readingOf}
+use Rattle.lines.specs.Values.{padded}
+use Rattle.reading.specs.Plan.{Outcome, refused, read, Plan, slot, readingOf}
 use Rattle.reading.specs.Promise.{PlanWithin, Kept}
 use Rattle.reading.specs.Tree.{listing}
 use Rattle.solving.specs.declared.Solved.{Solved}

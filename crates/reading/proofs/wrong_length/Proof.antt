@@ -1,6 +1,6 @@
 -- `wrong_length`: each return is the definition's answer under the tests that led to it. Assumes nothing.
 use Rattle.reading.specs.Plan.{wrongLength}
-use Rattle.lines.proofs.Tests.{tests}
+use Rattle.text.proofs.Tests.{tests}
 use Rattle.reading.proofs.wrong_length.Statement.{statement}
 use Rattle.reading.proofs.wrong_length.Tie as tie
 

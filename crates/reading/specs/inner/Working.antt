@@ -1,23 +1,27 @@
--- What the code holds while it reads, in the terms of the definitions: where it stands, the free names, the offers and the nodes read so far.
+-- What the code holds while it reads, in the terms of the definitions: where it stands, the free names, the offers, the labels and the
+-- nodes read so far.
 -- Assumes nothing.
 use Prim.Native.Nat.{ℕ, zero, suc, _+_, _≤_}
 use mathlib.Core.Bool.{true, false}
 use mathlib.Core.Path.{_≡_}
-use mathlib.Core.List.{List, map}
+use mathlib.Core.List.{List, [], _∷_, map}
 use lib.ListN.{length, replicate}
 use lib.Seq.{sets}
+use Rattle.text.specs.Positions.{endAt, restAt}
+use Rattle.lines.specs.declared.Label.{Label}
 use Rattle.lines.specs.declared.Node.the-variants.{Nil}
 use Rattle.sets.specs.Rows.{emptyRow}
-use Rattle.limits.specs.Limits.{longest, mostChannels, mostNames, mostNodes}
+use Rattle.limits.specs.Limits.{longest, mostChannels, mostNames, mostLabels, mostNodes}
 use Rattle.lines.specs.Scope.{noNames, naming}
-use Rattle.lines.specs.Values.{restAt, endAt, meaningIn}
+use Rattle.lines.specs.Values.{padded, noLabel, meaningIn}
 use Rattle.reading.specs.declared.Slot.{Slot}
 use Rattle.reading.specs.declared.cursor.Cursor.{Cursor}
+use Rattle.reading.specs.declared.labels.Labels.{Labels}
 use Rattle.reading.specs.declared.names.Names.{Names}
 use Rattle.reading.specs.declared.offers.Offers.{Offers}
 use Rattle.reading.specs.declared.tree.State.{State}
 use Rattle.reading.specs.Tree.{listing}
-use Rattle.reading.specs.Plan.{Outcome, refused, read, Place, Named, Offered, laying, Grown, Reader, slot, noName}
+use Rattle.reading.specs.Plan.{Outcome, refused, read, Place, Named, Offered, laying, Labelled, Grown, Reader, slot, noName}
 
 -- ---- where reading stands
 
@@ -76,6 +80,33 @@ pub record Laid (s : List ℕ) (before : Offers) (offered : Offered) (r : Offers
 abbrev pub Lays : List ℕ → Offers → Outcome Offered → Offers → Type 0
 Lays s before (refused f) r = (r .good ≡ false) × (r .refusal ≡ f)
 Lays s before (read offered) r = Laid s before offered r
+
+-- ---- the labels read so far
+
+-- no label has more bytes than its array
+abbrev pub Sized : List Label → Type 0
+Sized [] = Unit {0}
+Sized (label ∷ labels) = (label .size ≤ length (label .bytes)) × Sized labels
+
+-- no label yet
+pub record FreshLabels (cursor : Cursor) (r : Labels) : Type 0 where
+  pub good : r .good ≡ true
+  pub there : r .cursor ≡ cursor
+  pub least : r .least ≡ 0
+  pub none : r .count ≡ 0
+  pub labels : r .labels ≡ replicate mostLabels noLabel
+
+-- r has these labels
+pub record Listed (s : List ℕ) (labelled : Labelled) (r : Labels) : Type 0 where
+  pub good : r .good ≡ true
+  pub stands : StandsIn s (r .cursor)
+  pub place : labelled .after ≡ placeAt s (r .cursor)
+  pub count : r .count ≡ length (labelled .labels)
+  pub labels : r .labels ≡ padded mostLabels noLabel (labelled .labels)
+
+abbrev pub Lists : List ℕ → Outcome Labelled → Labels → Type 0
+Lists s (refused f) r = (r .good ≡ false) × (r .refusal ≡ f)
+Lists s (read labelled) r = Listed s labelled r
 
 -- ---- the nodes read so far
 
