@@ -1,6 +1,6 @@
-// Answers many plans: records on standard input, their sheets on standard output one after the other, each with its reach sheet behind it. A record is a line of sixteen
-// hexadecimal digits, eight for the length of the plan's text and eight for the allowance of rounds, and then the text's bytes. A record that
-// is none ends the run with a line that names it and says why.
+// Answers many plans: records on standard input, their sheets on standard output one after the other, each with its reach sheet and its word sheet
+// behind it. A record is a line of sixteen hexadecimal digits, eight for the length of the plan's text and eight for the allowance of rounds, and
+// then the text's bytes. A record that is none ends the run with a line that names it and says why.
 ghost use mathlib.Core.Path.{_≡_};
 ghost use lib.ListN.{length};
 ghost use Rattle.inputs.specs.Header.{longestText};
@@ -37,6 +37,7 @@ fn answer_record(line: &[u8], text: &mut [u8], number: u64) -> bool {
         Fault::None => {
             print(answer.sheet);
             print(answer.reach);
+            print(answer.words);
             true
         }
         Fault::CutShort => bad_record(number, b"it is cut short"),

@@ -4,8 +4,6 @@ use Prim.Native.Nat.{ℕ, _<_, _≤_}
 use mathlib.Core.Path.{_≡_}
 use mathlib.Core.List.{List, _++_}
 use lib.ListN.{length, drop}
-use Rattle.sheet.specs.Sheet.{SheetFor}
-use Rattle.reach_sheet.specs.ReachSheet.{ReachSheetFor}
 
 -- by the sheet and what the buffer held before
 pub record Fits (sheet before : List ℕ) (size : ℕ) (after : List ℕ) : Type 0 where
@@ -16,14 +14,8 @@ pub record Fits (sheet before : List ℕ) (size : ℕ) (after : List ℕ) : Type
   -- it fits: it stands at the buffer's start, and every byte past it stays
   pub written : length sheet ≤ length before → after ≡ sheet ++ drop (length sheet) before
 
--- the same, by the text and the allowance of rounds
-pub record Answers (text : List ℕ) (allowance : ℕ) (before : List ℕ) (size : ℕ) (after : List ℕ) : Type 0 where
+-- the same, by the text and the allowance of rounds, with the sheet that is meant: `IsSheet text allowance sheet`
+pub record Answers (IsSheet : List ℕ → ℕ → List ℕ → Type 0) (text : List ℕ) (allowance : ℕ) (before : List ℕ) (size : ℕ) (after : List ℕ) : Type 0 where
   pub sheet : List ℕ
-  pub of-text : SheetFor text allowance sheet
-  pub fits : Fits sheet before size after
-
--- the same, with the reach sheet
-pub record AnswersReach (text : List ℕ) (allowance : ℕ) (before : List ℕ) (size : ℕ) (after : List ℕ) : Type 0 where
-  pub sheet : List ℕ
-  pub of-text : ReachSheetFor text allowance sheet
+  pub of-text : IsSheet text allowance sheet
   pub fits : Fits sheet before size after

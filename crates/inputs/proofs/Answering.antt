@@ -1,7 +1,7 @@
 -- What the programs answer: the front of an input has the sheet of the whole, a blank sheet counts no bytes, and the contracts admit one
 -- answer each. Assumes nothing.
 use Prim.Native.Nat.{ℕ, _<_, _≤_}
-use mathlib.Core.Path.{_≡_, refl, sym, subst, subst⁻¹, _∙_}
+use mathlib.Core.Path.{_≡_, refl, sym, ap, subst, subst⁻¹, _∙_}
 use mathlib.Core.List.{List}
 use native.Mathlib.Decide.{decLe}
 use native.Mathlib.Omega.{arith}
@@ -12,48 +12,48 @@ use Rattle.reading.proofs.Promise.{cut-reads}
 use Rattle.judging.specs.Judge.{Judges}
 use Rattle.solving.specs.Rounds.{roundCeiling}
 use Rattle.sheet.specs.declared.Sheet.{Sheet}
-use Rattle.sheet.specs.Write.{IsWhole, Counted}
+use Rattle.sheet.specs.Write.{Counted}
+use Rattle.sheet.proofs.Writing.{OneWhole}
 use Rattle.sheet.proofs.Demands.{whole-once}
 use Rattle.reaching.specs.Reach.{Reaches}
-use Rattle.reach_sheet.specs.ReachSheet.{IsWholeReach}
 use Rattle.reach_sheet.proofs.Reached.{whole-once as reach-once}
+use Rattle.word_sheet.specs.WordSheet.{wordSheetOf, labelsOf}
+use Rattle.word_sheet.proofs.Words.{whole-once as words-once}
 use Rattle.inputs.specs.declared.Asked.{Asked}
-use Rattle.inputs.specs.declared.Asked.the-variants.{Flow, Reach}
+use Rattle.inputs.specs.declared.Asked.the-variants.{Flow, Reach, Words}
 use Rattle.inputs.specs.declared.Fault.{Fault}
-use Rattle.inputs.specs.declared.Fault.the-variants.{None}
 use Rattle.inputs.specs.declared.Recorded.{Recorded}
 use Rattle.inputs.specs.declared.header.Header.{Header}
 use Rattle.inputs.specs.declared.header.Header.the-variants.{Faulty, Record}
 use Rattle.inputs.specs.Header.{headerOf}
-use Rattle.inputs.specs.Answers.{IsAsked, noSheet, noRecord, AnswersInput, AnswersHeader, AnswersRecord}
+use Rattle.inputs.specs.Answers.{AskedFor, IsAsked, noSheet, noRecord, Answered, AnswersInput, AnswersHeader, AnswersRecord}
 
 -- ---- a whole input
 
 -- a text has the sheet of its front
+sheet-of-front : (asked : Asked) (n : ℕ) (input : List ℕ) (allowance : ℕ) (sheet : List ℕ) → longest < n → AskedFor asked (take n input) allowance sheet
+    → AskedFor asked input allowance sheet
+sheet-of-front Flow n input allowance sheet more w =
+    let judged = subst (λ o. Judges o allowance (w .answer)) (cut-reads n input more) (w .judged) in
+    record { answer = w .answer; judged = judged; is = w .is }
+sheet-of-front Reach n input allowance sheet more w =
+    let reaches = subst (λ o. Reaches o allowance (w .received)) (cut-reads n input more) (w .reaches) in
+    record { received = w .received; reaches = reaches; is = w .is }
+sheet-of-front Words n input allowance sheet more w =
+    let same = cut-reads n input more in
+    let judged = subst (λ o. Judges o allowance (w .answer)) same (w .judged) in
+    record { answer = w .answer; judged = judged; is = w .is ∙ ap (λ o. wordSheetOf (labelsOf o) (w .answer .verdict)) same }
+
 of-front : (asked : Asked) (n : ℕ) (input : List ℕ) (allowance : ℕ) (r : Sheet) → longest < n → IsAsked asked (take n input) allowance r
     → IsAsked asked input allowance r
-of-front Flow n input allowance r more w = record {
-  sheet = w .sheet;
-  of-text = record {
-    answer = w .of-text .answer;
-    judged = subst (λ o. Judges o allowance (w .of-text .answer)) (cut-reads n input more) (w .of-text .judged);
-    is = w .of-text .is;
-  };
-  fills = w .fills;
-}
-of-front Reach n input allowance r more w = record {
-  sheet = w .sheet;
-  of-text = record {
-    received = w .of-text .received;
-    reaches = subst (λ o. Reaches o allowance (w .of-text .received)) (cut-reads n input more) (w .of-text .reaches);
-    is = w .of-text .is;
-  };
-  fills = w .fills;
-}
+of-front asked n input allowance r more w =
+    record { sheet = w .sheet; of-text = sheet-of-front asked n input allowance (w .sheet) more (w .of-text); fills = w .fills }
 
-asked-once : (asked : Asked) (text : List ℕ) (allowance : ℕ) (r q : Sheet) → IsAsked asked text allowance r → IsAsked asked text allowance q → r ≡ q
-asked-once Flow text allowance r q = whole-once r q
-asked-once Reach text allowance r q = reach-once text allowance r q
+-- and one only
+asked-once : (asked : Asked) → OneWhole (AskedFor asked)
+asked-once Flow = whole-once
+asked-once Reach = reach-once
+asked-once Words = words-once
 
 module _ (asked : Asked) (front : List ℕ) (size : ℕ) (r : Sheet) where
   pub input-answers : longest < length front → IsAsked asked (take size front) roundCeiling r → AnswersInput asked front size r
@@ -75,8 +75,9 @@ input-once asked front size r q a b =
 blank-counted : Counted noSheet
 blank-counted = (omega arith, refl)
 
-pub none-counted : (fault : Fault) (r : Recorded) → r ≡ noRecord fault → Counted (r .sheet) × Counted (r .reach)
-none-counted fault r e = subst⁻¹ (λ s. Counted (s .sheet) × Counted (s .reach)) e (blank-counted, blank-counted)
+pub none-counted : (fault : Fault) (r : Recorded) → r ≡ noRecord fault → Counted (r .sheet) × Counted (r .reach) × Counted (r .words)
+none-counted fault r e =
+    subst⁻¹ (λ s. Counted (s .sheet) × Counted (s .reach) × Counted (s .words)) e (blank-counted, blank-counted, blank-counted)
 
 module _ (line text : List ℕ) where
   -- by what its header says
@@ -87,12 +88,12 @@ module _ (line text : List ℕ) where
 pub record-once : (line text : List ℕ) (r q : Recorded) → AnswersRecord line text r → AnswersRecord line text q → r ≡ q
 record-once line text r q = go (headerOf line)
   where
-    whole : (its : List ℕ) (allowance : ℕ) → (r .fault ≡ None) × IsWhole its allowance (r .sheet) × IsWholeReach its allowance (r .reach)
-        → (q .fault ≡ None) × IsWhole its allowance (q .sheet) × IsWholeReach its allowance (q .reach) → r ≡ q
+    whole : (its : List ℕ) (allowance : ℕ) → Answered its allowance r → Answered its allowance q → r ≡ q
     whole its allowance a b = λ i. record {
-      fault = (a .0 ∙ sym (b .0)) i;
-      sheet = whole-once (r .sheet) (q .sheet) (a .1) (b .1) i;
-      reach = reach-once its allowance (r .reach) (q .reach) (a .2) (b .2) i;
+      fault = (a .fault ∙ sym (b .fault)) i;
+      sheet = whole-once its allowance (r .sheet) (q .sheet) (a .sheet) (b .sheet) i;
+      reach = reach-once its allowance (r .reach) (q .reach) (a .reach) (b .reach) i;
+      words = words-once its allowance (r .words) (q .words) (a .words) (b .words) i;
     }
 
     go : (h : Header) → AnswersHeader h text r → AnswersHeader h text q → r ≡ q

@@ -1,6 +1,6 @@
-// From what a program reads to the sheet that it prints: the whole input of `plan` and of `reaches`, and a record of `batch`. The programs are
-// left with reading and writing. Proved: the sheet is the one asked for, of the whole input at the most rounds that any plan takes; a record's
-// two are those of its text at its allowance; and a record that is none is told why.
+// From what a program reads to the sheet that it prints: the whole input of `plan`, of `reaches` and of `words`, and a record of `batch`. The programs
+// are left with reading and writing. Proved: the sheet is the one asked for, of the whole input at the most rounds that any plan takes; a record's
+// three are those of its text at its allowance; and a record that is none is told why.
 ghost use mathlib.Core.Path.{_≡_};
 ghost use Prim.Native.Nat.{_<_, _≤_};
 ghost use lib.ListN.{length};
@@ -27,17 +27,19 @@ pub enum Fault {
     AllowanceTooLarge,
 }
 
-// What a record is answered: its sheet and its reach sheet, or what is wrong with it beside blank ones.
+// What a record is answered: its sheet, its reach sheet and its word sheet, or what is wrong with it beside blank ones.
 pub struct Recorded {
     pub fault: Fault,
     pub sheet: Sheet,
     pub reach: Sheet,
+    pub words: Sheet,
 }
 
-// Which sheet is asked for: the one with the verdict, or the reach sheet.
+// Which sheet is asked for: the one with the verdict, the reach sheet, or the word sheet.
 pub enum Asked {
     Flow,
     Reach,
+    Words,
 }
 
 // The sheet of a text that is asked for, within an allowance of rounds.
@@ -48,6 +50,7 @@ fn asked_of(asked: Asked, text: &[u8], allowance: u16) -> Sheet
     match asked {
         Asked::Flow => sheet::whole(text, allowance),
         Asked::Reach => reach_sheet::whole(text, allowance),
+        Asked::Words => word_sheet::whole(text, allowance),
     }
 }
 
@@ -91,13 +94,14 @@ fn none(fault: Fault) -> Recorded
         fault,
         sheet: Sheet { bytes, size: 0 },
         reach: Sheet { bytes, size: 0 },
+        words: Sheet { bytes, size: 0 },
     }
 }
 
 // What a record is answered whose header is good, by as many bytes of its text as there were.
 fn of_text(text: &[u8], size: usize, allowance: u16) -> Recorded
     ensures { λ r. ⌜ AnswersHeader (Header.Record size allowance) (now (text .entry)) r ⌝ }
-    ensures { λ r. ⌜ Counted (r .sheet) × Counted (r .reach) ⌝ }
+    ensures { λ r. ⌜ Counted (r .sheet) × Counted (r .reach) × Counted (r .words) ⌝ }
 {
     if text.len() < size {
         return none(Fault::CutShort);
@@ -106,13 +110,14 @@ fn of_text(text: &[u8], size: usize, allowance: u16) -> Recorded
         fault: Fault::None,
         sheet: sheet::whole(&text[..size], allowance),
         reach: reach_sheet::whole(&text[..size], allowance),
+        words: word_sheet::whole(&text[..size], allowance),
     }
 }
 
 // What a record is answered, by its header's line and as many bytes of its text as there were.
 pub fn of_record(line: &[u8], text: &[u8]) -> Recorded
     ensures { λ r. ⌜ AnswersRecord (now (line .entry)) (now (text .entry)) r ⌝ }
-    ensures { λ r. ⌜ Counted (r .sheet) × Counted (r .reach) ⌝ }
+    ensures { λ r. ⌜ Counted (r .sheet) × Counted (r .reach) × Counted (r .words) ⌝ }
 {
     match header_of(line) {
         Header::Faulty(fault) => none(fault),

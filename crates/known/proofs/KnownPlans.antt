@@ -1,15 +1,18 @@
--- Document 01's plans with known sheets, P1 to P10 (P9 has two rows), then plans with offers: one claim over the rows, that each sheet is its
--- text's. The checker computes it from the definitions alone. Assumes nothing.
+-- Document 01's plans with known sheets, P1 to P10 (P9 has two rows), then plans with offers and with labels: one claim over the rows, that each sheet
+-- is its text's. The checker computes it from the definitions alone. Assumes nothing.
 use Prim.Native.Nat.{ℕ}
-use mathlib.Core.Path.{_≡_, refl, subst}
-use mathlib.Core.List.{List, [], _∷_, _++_, map}
-use Rattle.lines.specs.Text.{linesOf, isDigit, valueOf, allDigits, oddOrNone, isFaulty, bytesOf}
+use mathlib.Core.Path.{_≡_, refl}
+use mathlib.Core.List.{List, [], _∷_, _++_}
+use Rattle.text.specs.Text.{linesOf, isDigit, valueOf, allDigits, oddOrNone, isFaulty, bytesOf}
 use Rattle.lines.specs.Frames.{outside, table, frameFrom, rowIn, frameIn}
 use Rattle.lines.specs.Rules.{outsideLimits, headRule, nameRule, offerRule, pairRule, receiveRule, restrictionRule, bracketRule}
-use Rattle.lines.specs.Line.{firstHead, nextName, nextOffer, nextNode}
+use Rattle.label_bytes.specs.Characters.{table as characterTable, fits, fitsOne}
+use Rattle.label_bytes.specs.Label.{isShown, isLabelFrom}
+use Rattle.lines.specs.Labels.{isThing, placeAmong, labelRule}
+use Rattle.lines.specs.Values.{padded}
+use Rattle.lines.specs.Line.{firstHead, nextName, nextOffer, nextLabel, nextNode}
 use Rattle.reading.specs.Tree.{listing}
-use Rattle.reading.specs.Plan.{grow, readNames, readOffers, readTree, afterHead, readPlan, wrongLength, planIn}
-use Rattle.solving.specs.Rounds.{roundCeiling}
+use Rattle.reading.specs.Plan.{grow, readNames, readOffers, sameBytes, isSame, isRepeated, readLabels, readTree, afterHead, readPlan, wrongLength, planIn}
 use Rattle.solving.specs.inner.Compute.{wanted, run, solutionOf}
 use Rattle.sets.specs.inner.Compute.{listWithin, lowestWithin}
 use Rattle.judging.specs.inner.Compute.{verdictFrom}
@@ -17,22 +20,17 @@ use Rattle.putting.specs.Characters.{text, digit, hexLine, hexLines}
 use Rattle.sheet.specs.Sheet.{setLines, SheetFor}
 use Rattle.sheet.specs.inner.Compute.{sheetFor}
 use Rattle.sheet.proofs.Sheets.{sheet-computed}
-
--- a plan's text, an allowance of rounds, and the sheet
-pub record KnownPlan : Type 0 where
-  pub plan : List ℕ
-  pub allowance : ℕ
-  pub sheet : List ℕ
-
-abbrev pub row : List ℕ → ℕ → List ℕ → KnownPlan
-row plan allowance sheet = record { plan = plan; allowance = allowance; sheet = sheet }
-
--- what the plan program allows
-abbrev pub allowed : ℕ
-allowed = roundCeiling
+use Rattle.known.proofs.Rows.{KnownPlan, row, allowed, sheets, computed, Claimed, claimed}
 
 abbrev pub p2 : List ℕ
 p2 = text "010102010102\n020000\n020101\n15\n1901\n120001\n10\n1900\n13000200\n10\n"
+
+-- P2 with a label for each level and each channel, in two scripts: મીના શાહ is level 1, रमेश दवे level 0, કામ channel 0, सविता channel 1
+abbrev pub p2-labelled : List ℕ
+p2-labelled =
+    text "010102010102\n020000\n020101\n040000e0aa95e0aabee0aaae\n040001e0a4b8e0a4b5e0a4bfe0a4a4e0a4be\n"
+    ++ text "040200e0a4b0e0a4aee0a587e0a4b620e0a4a6e0a4b5e0a587\n040201e0aaaee0ab80e0aaa8e0aabe20e0aab6e0aabee0aab9\n"
+    ++ text "15\n1901\n120001\n10\n1900\n13000200\n10\n"
 
 abbrev p2-sheet : List ℕ
 p2-sheet = text "2f0004\n200000000002\n21000000000002\n21070000000002\n22010000000002\n22070000000002\n300001000001\nflow breach\n"
@@ -91,32 +89,18 @@ rows =
     ∷ row (text "010102000000\n030000000004\n10\n") allowed (text "3f070002\nrefused\n")
     ∷ row (text "010102000000\n030000000000\n10\n") allowed (text "3f100002\nrefused\n")
     ∷ row (text "010102000000\n11\n030000000001\n10\n") allowed (text "3f030003\nrefused\n")
+    ∷ row p2-labelled allowed p2-sheet
+    ∷ row (text "010101000000\n04000080\n10\n") allowed (text "3f110002\nrefused\n")
+    ∷ row (text "010102000000\n04000041\n04000141\n10\n") allowed (text "3f120003\nrefused\n")
     ∷ []
 
--- the sheets as they are computed, and as they stand in the rows
-abbrev computed : List KnownPlan → List (List ℕ)
-computed rs = map (λ (r : KnownPlan). sheetFor (r .plan) (r .allowance)) rs
-
-abbrev pub sheets : List KnownPlan → List (List ℕ)
-sheets rs = map (λ (r : KnownPlan). r .sheet) rs
-
-computed-rows : computed rows ≡ sheets rows
+computed-rows : computed sheetFor rows ≡ sheets rows
 unfolding linesOf isDigit valueOf allDigits oddOrNone isFaulty bytesOf outside table frameFrom rowIn frameIn
+    characterTable fits fitsOne isShown isLabelFrom padded isThing placeAmong labelRule sameBytes isSame isRepeated readLabels nextLabel
     outsideLimits headRule nameRule offerRule pairRule receiveRule restrictionRule bracketRule listing
     grow firstHead nextName nextOffer nextNode readNames readOffers readTree afterHead readPlan wrongLength planIn
     wanted listWithin run solutionOf lowestWithin verdictFrom setLines digit hexLine hexLines sheetFor rows
 computed-rows = refl
 
--- each row's sheet is that of its text within its allowance
-abbrev pub Known : List KnownPlan → Type 0
-Known [] = Unit {0}
-Known (r ∷ rs) = SheetFor (r .plan) (r .allowance) (r .sheet) × Known rs
-
-from-computed : (rs : List KnownPlan) → computed rs ≡ sheets rs → Known rs
-from-computed [] e = tt
-from-computed (r ∷ rs) e =
-    let first : sheetFor (r .plan) (r .allowance) ≡ r .sheet = cc in
-    (subst (SheetFor (r .plan) (r .allowance)) first (sheet-computed (r .plan) (r .allowance)), from-computed rs cc)
-
-pub known : Known rows
-known = from-computed rows computed-rows
+pub known : Claimed SheetFor rows
+known = claimed SheetFor sheetFor sheet-computed rows computed-rows

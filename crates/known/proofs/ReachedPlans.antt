@@ -1,14 +1,18 @@
 -- Plans with known reach sheets: one row each, and one claim over the rows, that each reach sheet is its text's. The checker computes it from the
 -- definitions alone. Assumes nothing.
 use Prim.Native.Nat.{ℕ}
-use mathlib.Core.Path.{_≡_, refl, subst}
-use mathlib.Core.List.{List, [], _∷_, _++_, map}
-use Rattle.lines.specs.Text.{linesOf, isDigit, valueOf, allDigits, oddOrNone, isFaulty, bytesOf}
+use mathlib.Core.Path.{_≡_, refl}
+use mathlib.Core.List.{List, [], _∷_, _++_}
+use Rattle.text.specs.Text.{linesOf, isDigit, valueOf, allDigits, oddOrNone, isFaulty, bytesOf}
 use Rattle.lines.specs.Frames.{outside, table, frameFrom, rowIn, frameIn}
 use Rattle.lines.specs.Rules.{outsideLimits, headRule, nameRule, offerRule, pairRule, receiveRule, restrictionRule, bracketRule}
-use Rattle.lines.specs.Line.{firstHead, nextName, nextOffer, nextNode}
+use Rattle.label_bytes.specs.Characters.{table as characterTable, fits, fitsOne}
+use Rattle.label_bytes.specs.Label.{isShown, isLabelFrom}
+use Rattle.lines.specs.Labels.{isThing, placeAmong, labelRule}
+use Rattle.lines.specs.Values.{padded}
+use Rattle.lines.specs.Line.{firstHead, nextName, nextOffer, nextLabel, nextNode}
 use Rattle.reading.specs.Tree.{listing}
-use Rattle.reading.specs.Plan.{grow, readNames, readOffers, readTree, afterHead, readPlan, wrongLength, planIn}
+use Rattle.reading.specs.Plan.{grow, readNames, readOffers, sameBytes, isSame, isRepeated, readLabels, readTree, afterHead, readPlan, wrongLength, planIn}
 use Rattle.sets.specs.inner.Compute.{listWithin}
 use Rattle.solving.specs.inner.Compute.{wanted, run, solutionOf}
 use Rattle.putting.specs.Characters.{text, digit, hexLine, hexLines}
@@ -16,7 +20,8 @@ use Rattle.reaching.specs.inner.Compute.{valuesFrom, handlesFrom, firstFrom}
 use Rattle.reach_sheet.specs.ReachSheet.{reachLines, ReachSheetFor}
 use Rattle.reach_sheet.specs.inner.Compute.{reachSheetFor}
 use Rattle.reach_sheet.proofs.Reached.{reach-sheet-computed}
-use Rattle.known.proofs.KnownPlans.{KnownPlan, row, allowed, p2, p2-offered, p6, sheets}
+use Rattle.known.proofs.KnownPlans.{p2, p2-offered, p6}
+use Rattle.known.proofs.Rows.{KnownPlan, row, allowed, sheets, computed, Claimed, claimed}
 
 -- channel 2 is sent on channel 0 from outside every bracket: level 0 receives it there, and level 1 listens where nobody sends
 abbrev household : List ℕ
@@ -37,27 +42,13 @@ rows =
     ∷ row (text "") allowed (text "3f010000\nrefused\n")
     ∷ []
 
--- the reach sheets as they are computed
-abbrev computed : List KnownPlan → List (List ℕ)
-computed rs = map (λ (r : KnownPlan). reachSheetFor (r .plan) (r .allowance)) rs
-
-computed-rows : computed rows ≡ sheets rows
+computed-rows : computed reachSheetFor rows ≡ sheets rows
 unfolding linesOf isDigit valueOf allDigits oddOrNone isFaulty bytesOf outside table frameFrom rowIn frameIn
+    characterTable fits fitsOne isShown isLabelFrom padded isThing placeAmong labelRule sameBytes isSame isRepeated readLabels nextLabel
     outsideLimits headRule nameRule offerRule pairRule receiveRule restrictionRule bracketRule listing
     grow firstHead nextName nextOffer nextNode readNames readOffers readTree afterHead readPlan wrongLength planIn
     wanted listWithin run solutionOf valuesFrom handlesFrom firstFrom reachLines digit hexLine hexLines reachSheetFor rows
 computed-rows = refl
 
--- each row's reach sheet is that of its text within its allowance
-abbrev pub Reached : List KnownPlan → Type 0
-Reached [] = Unit {0}
-Reached (r ∷ rs) = ReachSheetFor (r .plan) (r .allowance) (r .sheet) × Reached rs
-
-from-computed : (rs : List KnownPlan) → computed rs ≡ sheets rs → Reached rs
-from-computed [] e = tt
-from-computed (r ∷ rs) e =
-    let first : reachSheetFor (r .plan) (r .allowance) ≡ r .sheet = cc in
-    (subst (ReachSheetFor (r .plan) (r .allowance)) first (reach-sheet-computed (r .plan) (r .allowance)), from-computed rs cc)
-
-pub reached : Reached rows
-reached = from-computed rows computed-rows
+pub reached : Claimed ReachSheetFor rows
+reached = claimed ReachSheetFor reachSheetFor reach-sheet-computed rows computed-rows

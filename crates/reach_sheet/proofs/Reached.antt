@@ -7,27 +7,24 @@ use mathlib.Core.Logic.{_≢_}
 use native.Mathlib.Omega.{arith}
 use borrow.Author.Tests.{eq-eqb, ne-eqb}
 use lib.Dec.{eqb}
-use lib.ListN.{length, take, getD, replicate, length-append, length-replicate}
+use lib.ListN.{length, getD, replicate, length-append}
 use Rattle.limits.specs.Limits.{mostChannels, levelSets}
 use Rattle.putting.specs.Characters.{text, hexLine, hexLines}
 use Rattle.putting.specs.Put.{Room, Put}
-use Rattle.putting.proofs.Putting.{Left, left-none, left-put, left-room-first, put-same}
+use Rattle.putting.proofs.Putting.{Left, left-none, left-put, left-room-first}
 use Rattle.putting.proofs.Characters.{line-length, lines-append}
 use Rattle.sets.specs.Set.{Set, isMember}
 use Rattle.sets.specs.Rows.{SetRow, setAt}
-use Rattle.reading.specs.Plan.{planIn, padded}
+use Rattle.reading.specs.Plan.{planIn}
 use Rattle.reaching.specs.declared.Received.{Received}
 use Rattle.reaching.specs.Reach.{Reaches}
 use Rattle.reaching.proofs.Demands.{once as received-once}
 use Rattle.reaching.proofs.Computed.{computed as received-computed}
 use Rattle.sheet.specs.declared.Sheet.{Sheet}
-use Rattle.sheet.specs.declared.Written.{Written}
-use Rattle.sheet.specs.declared.Written.the-variants.{Whole, TooShort}
 use Rattle.sheet.specs.Sheet.{refusalLine}
-use Rattle.sheet.specs.Write.{longestSheet, Fills}
-use Rattle.sheet.proofs.Sheets.{short-wrote, whole-wrote}
-use Rattle.sheet.proofs.Demands.{wrote-once, fills-is, fills-once}
-use Rattle.reach_sheet.specs.ReachSheet.{lineFor, reachLines, reachSheetOf, longestReach, ReachSheetFor, IsWholeReach, WritesReach}
+use Rattle.sheet.specs.Write.{longestSheet, IsWhole}
+use Rattle.sheet.proofs.Writing.{OneSheet, OneWritten, OneWhole, one-written, one-whole, whole-put}
+use Rattle.reach_sheet.specs.ReachSheet.{lineFor, reachLines, reachSheetOf, longestReach, ReachSheetFor}
 use Rattle.reach_sheet.specs.inner.Compute.{reachSheetFor}
 
 -- ---- a place's line
@@ -122,54 +119,27 @@ reach-most r = go (eqb (r .refusal .number) 0)
     go true = omega (arith, length-append (hexLines (reachLines (r .handles) (r .channels) levelSets 0)) (text "reach complete\n"), lines-most (r .handles) (r .channels) levelSets 0)
     go false = omega (arith, length-append (hexLine (refusalLine (r .refusal))) (text "refused\n"), line-length (refusalLine (r .refusal)))
 
--- its front is the sheet
-take-front : (xs ys : List ℕ) → take (length xs) (xs ++ ys) ≡ xs
-take-front [] ys = refl
-take-front (x ∷ xs) ys = ap (λ l. x ∷ l) (take-front xs ys)
+module _ {plan : List ℕ} {allowance : ℕ} {received : Received} (reaches : Reaches (planIn plan) allowance received) where
+  its-sheet : ReachSheetFor plan allowance (reachSheetOf received)
+  its-sheet = record { received = received; reaches = reaches; is = refl }
 
-front-is : {sheet : List ℕ} {r : Sheet} → Fills sheet r → take (r .size) (r .bytes) ≡ sheet
-unfolding padded
-front-is {sheet} {r} w =
-    ap (λ n. take n (r .bytes)) (w .size) ∙ (ap (take (length sheet)) (w .bytes) ∙ take-front sheet (replicate (longestSheet - length sheet) 0))
-
--- put into a blank array, it is whole
-pub whole-is : {plan : List ℕ} {allowance : ℕ} {received : Received} (r : Sheet) → Reaches (planIn plan) allowance received
-    → Put (replicate longestSheet 0) 0 (reachSheetOf received) (r .bytes) (r .size) → IsWholeReach plan allowance r
-whole-is {received} r reaches p =
-    let sheet = reachSheetOf received in
-    let size : r .size ≡ length sheet = omega (arith, p .behind) in
-    let most : length sheet ≤ longestSheet = omega (arith, reach-most received) in
-    let blank : List ℕ = replicate longestSheet 0 in
-    let room : r .size ≤ length blank = rw length-replicate (omega (arith, size, reach-most received)) in
-    let wrote = whole-wrote sheet blank (r .bytes) (r .size) (r .size) size room p in
-    record { sheet = sheet; of-text = record { received = received; reaches = reaches; is = refl }; fills = fills-is sheet r most wrote refl }
-
--- the two ways in which it is written
-pub short-writes : {plan : List ℕ} {allowance : ℕ} {r : Sheet} → IsWholeReach plan allowance r → (before : List ℕ) → length before < r .size
-    → WritesReach plan allowance before (TooShort (r .size)) before
-short-writes {r} w before h = record { sheet = w .sheet; of-text = w .of-text; wrote = short-wrote (w .sheet) before (r .size) (w .fills .size) h }
-
-pub whole-writes : {plan : List ℕ} {allowance : ℕ} {r : Sheet} → IsWholeReach plan allowance r → (before after : List ℕ) (next : ℕ) → r .size ≤ length before
-    → Put before 0 (take (r .size) (r .bytes)) after next → WritesReach plan allowance before (Whole (r .size)) after
-whole-writes {r} w before after next h p =
-    let put = put-same (sym (front-is (w .fills))) p in
-    record { sheet = w .sheet; of-text = w .of-text; wrote = whole-wrote (w .sheet) before after (r .size) next (w .fills .size) h put }
+  -- put into a blank array, it is whole
+  pub reach-whole : (r : Sheet) → Put (replicate longestSheet 0) 0 (reachSheetOf received) (r .bytes) (r .size) → IsWhole ReachSheetFor plan allowance r
+  reach-whole r p = whole-put (reachSheetOf received) r (omega (arith, reach-most received)) its-sheet p
 
 -- a text has one reach sheet within an allowance
-pub reach-sheet-once : (plan : List ℕ) (allowance : ℕ) {s t : List ℕ} → ReachSheetFor plan allowance s → ReachSheetFor plan allowance t → s ≡ t
-reach-sheet-once plan allowance a b =
+pub reach-sheet-once : OneSheet ReachSheetFor
+reach-sheet-once plan allowance s t a b =
     a .is ∙ (ap reachSheetOf (received-once plan allowance (a .received) (b .received) (a .reaches) (b .reaches)) ∙ sym (b .is))
 
 -- it is the computed one
 pub reach-sheet-computed : (plan : List ℕ) (allowance : ℕ) → ReachSheetFor plan allowance (reachSheetFor plan allowance)
 unfolding reachSheetFor
-reach-sheet-computed plan allowance = record { received = _; reaches = received-computed plan allowance; is = refl }
+reach-sheet-computed plan allowance = its-sheet (received-computed plan allowance)
 
 -- any two outcomes that the contracts admit are equal
-pub whole-once : (plan : List ℕ) (allowance : ℕ) (r q : Sheet) → IsWholeReach plan allowance r → IsWholeReach plan allowance q → r ≡ q
-whole-once plan allowance r q a b = fills-once (a .sheet) (b .sheet) r q (reach-sheet-once plan allowance (a .of-text) (b .of-text)) (a .fills) (b .fills)
+pub once : OneWritten ReachSheetFor
+once = one-written ReachSheetFor reach-sheet-once
 
-pub once : (plan : List ℕ) (allowance : ℕ) (before : List ℕ) (w v : Written) (after later : List ℕ) → WritesReach plan allowance before w after
-    → WritesReach plan allowance before v later → (w ≡ v) × (after ≡ later)
-once plan allowance before w v after later a b =
-    wrote-once (a .sheet) (b .sheet) before w v after later (reach-sheet-once plan allowance (a .of-text) (b .of-text)) (a .wrote) (b .wrote)
+pub whole-once : OneWhole ReachSheetFor
+whole-once = one-whole ReachSheetFor reach-sheet-once

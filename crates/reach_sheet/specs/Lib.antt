@@ -1,4 +1,4 @@
--- The reach sheet, and what writing one does.
+-- The reach sheet.
 pub mod ReachSheet
 -- For computing: nothing that a caller has to believe.
 pub mod inner

@@ -1,4 +1,4 @@
--- The reach sheet: its lines in order, the whole as characters, and what writing one returns and leaves in a lent buffer.
+-- The reach sheet: its lines in order, and the whole as characters.
 -- Assumes nothing.
 use Prim.Native.Nat.{ℕ, zero, suc, _+_, _/_, _%_}
 use mathlib.Core.Bool.{cond}
@@ -13,10 +13,7 @@ use Rattle.sets.specs.Rows.{SetRow, setAt}
 use Rattle.reading.specs.Plan.{planIn}
 use Rattle.reaching.specs.declared.Received.{Received}
 use Rattle.reaching.specs.Reach.{Reaches}
-use Rattle.sheet.specs.declared.Sheet.{Sheet}
-use Rattle.sheet.specs.declared.Written.{Written}
 use Rattle.sheet.specs.Sheet.{refusalLine}
-use Rattle.sheet.specs.Write.{Wrote, Fills}
 
 -- 23, level, handle, channel: of the place of a level and a handle, where the handle is among those of the level
 abbrev pub lineFor : Set → ℕ → ℕ → List (List ℕ)
@@ -45,15 +42,3 @@ pub record ReachSheetFor (plan : List ℕ) (allowance : ℕ) (sheet : List ℕ) 
   pub received : Received
   pub reaches : Reaches (planIn plan) allowance received
   pub is : sheet ≡ reachSheetOf received
-
--- the whole of it in an array
-pub record IsWholeReach (plan : List ℕ) (allowance : ℕ) (r : Sheet) : Type 0 where
-  pub sheet : List ℕ
-  pub of-text : ReachSheetFor plan allowance sheet
-  pub fills : Fills sheet r
-
--- what writing it returns, and what the buffer holds afterwards
-pub record WritesReach (plan : List ℕ) (allowance : ℕ) (before : List ℕ) (returned : Written) (after : List ℕ) : Type 0 where
-  pub sheet : List ℕ
-  pub of-text : ReachSheetFor plan allowance sheet
-  pub wrote : Wrote sheet before returned after

@@ -5,8 +5,8 @@ ghost use Prim.Native.Nat.{_<_};
 ghost use Rattle.limits.specs.Limits.{levelSets};
 ghost use Rattle.putting.specs.Characters.{hexLines};
 ghost use Rattle.putting.specs.Put.{Room, Put};
-ghost use Rattle.sheet.specs.Write.{Counted};
-ghost use Rattle.reach_sheet.specs.ReachSheet.{lineFor, reachLines, reachSheetOf, IsWholeReach, WritesReach};
+ghost use Rattle.sheet.specs.Write.{Writes, IsWhole, Counted};
+ghost use Rattle.reach_sheet.specs.ReachSheet.{lineFor, reachLines, reachSheetOf, ReachSheetFor};
 use limits::CHANNEL_SETS;
 use limits::LEVEL_SETS;
 use reaching::Received;
@@ -60,7 +60,7 @@ fn put_received(buffer: &mut [u8], received: Received) -> usize
 
 // The whole reach sheet of a text, within an allowance of rounds.
 pub fn whole(text: &[u8], allowance: u16) -> Sheet
-    ensures { λ r. ⌜ IsWholeReach (now (text .entry)) allowance r ⌝ }
+    ensures { λ r. ⌜ IsWhole ReachSheetFor (now (text .entry)) allowance r ⌝ }
     ensures { λ r. ⌜ Counted r ⌝ }
 {
     let received = reaching::reach(text, allowance);
@@ -72,14 +72,8 @@ pub fn whole(text: &[u8], allowance: u16) -> Sheet
 // Writes the reach sheet of a text, within an allowance of rounds, from the buffer's start and changes nothing past it; a buffer that is too short
 // stays as it is.
 pub fn write(text: &[u8], allowance: u16, buffer: &mut [u8]) -> Written
-    ensures { λ r. ⌜ WritesReach (now (text .entry)) allowance (now (buffer .entry)) r (now (buffer .exit)) ⌝ }
+    ensures { λ r. ⌜ Writes ReachSheetFor (now (text .entry)) allowance (now (buffer .entry)) r (now (buffer .exit)) ⌝ }
 {
     let made = whole(text, allowance);
-    let bytes = made.bytes;
-    let size = made.size;
-    if buffer.len() < size {
-        return Written::TooShort(size);
-    }
-    putting::put_text(buffer, 0, &bytes[..size]);
-    Written::Whole(size)
+    sheet::copy(made, buffer)
 }

@@ -1,17 +1,13 @@
--- What the contract of `write` comes to, over texts: it admits one outcome; a buffer of the sheet's length is enough, where one byte less is
--- not; 8,128 bytes hold the whole sheet; and demand 1. Assumes nothing.
-use Prim.Native.Nat.{ℕ, _+_, _-_, _≤_}
-use mathlib.Core.Path.{_≡_, sym, ap, subst, _∙_}
-use mathlib.Core.List.{List, [], _∷_, _++_, append-nil}
-use native.Mathlib.Decide.{decLe}
+-- What the contracts of `write` and `whole` come to, over texts: each admits one outcome; and demand 1. Assumes nothing.
+use Prim.Native.Nat.{ℕ, _≤_}
+use mathlib.Core.Path.{_≡_, ap, subst}
+use mathlib.Core.List.{List, [], _∷_, _++_}
 use native.Mathlib.Omega.{arith}
-use lib.ListN.{length, drop, getD, replicate, length-append, length-replicate, drop-of-length-le}
-use lib.Seq.{length-take-le}
+use lib.ListN.{length, drop}
 use Rattle.reading.specs.declared.Refusal.{Refusal}
-use Rattle.reading.specs.Plan.{refused, planIn, padded}
+use Rattle.reading.specs.Plan.{planIn}
 use Rattle.reading.specs.Promise.{Kept}
 use Rattle.reading.proofs.Promise.{kept}
-use Rattle.lines.proofs.Lists.{drop-replicate}
 use Rattle.solving.specs.declared.Solved.{Solved}
 use Rattle.solving.specs.Solve.{refusedBy, overAllowance}
 use Rattle.solving.specs.Demand.{Demand2}
@@ -21,102 +17,21 @@ use Rattle.judging.specs.declared.Verdict.the-variants.{Unjudged}
 use Rattle.judging.specs.Judge.{VerdictBeside, Judges}
 use Rattle.judging.proofs.Verdicts.{verdict-once}
 use Rattle.judging.proofs.Demands.{once as answer-once}
-use Rattle.sheet.specs.declared.Sheet.{Sheet}
 use Rattle.sheet.specs.declared.Written.{Written}
-use Rattle.sheet.specs.declared.Written.the-variants.{Whole, TooShort}
-use Rattle.sheet.specs.Sheet.{sheetOf}
-use Rattle.sheet.specs.Write.{valuesOf, lengthIn, Wrote, Writes, longestSheet, Fills, IsWhole, Counted}
+use Rattle.sheet.specs.Sheet.{sheetOf, SheetFor}
+use Rattle.sheet.specs.Write.{valuesOf, Writes}
 use Rattle.sheet.specs.Demand.{refusalOf, Demand1}
-use Rattle.sheet.proofs.Sheets.{sheet-once, sheet-most}
+use Rattle.sheet.proofs.Writing.{OneWritten, OneWhole, one-written, one-whole}
+use Rattle.sheet.proofs.Sheets.{sheet-once}
 
 -- ---- outcomes
 
-once-values : (w v : Written) → valuesOf w ≡ valuesOf v → w ≡ v
-once-values (Whole n) (Whole m) e = cc
-once-values (Whole n) (TooShort m) e = let z : _≡_ {A = ℕ} 0 15 = cc in absurd (omega arith)
-once-values (TooShort n) (Whole m) e = let z : _≡_ {A = ℕ} 15 0 = cc in absurd (omega arith)
-once-values (TooShort n) (TooShort m) e = cc
+-- any two that the contracts admit are equal
+pub once : OneWritten SheetFor
+once = one-written SheetFor sheet-once
 
--- of one sheet there is one outcome
-pub wrote-once : (s t before : List ℕ) (w v : Written) (after later : List ℕ) → s ≡ t → Wrote s before w after → Wrote t before v later
-    → (w ≡ v) × (after ≡ later)
-wrote-once s t before w v after later same a b = go (decLe (length s) (length before))
-  where
-    go : Dec (length s ≤ length before) → (w ≡ v) × (after ≡ later)
-    go (yes h) =
-        let p = a .otherwise h in
-        let q = b .otherwise (omega (arith, ap length same)) in
-        let values = p .0 ∙ (ap (λ l. 0 ∷ length l ∷ []) same ∙ sym (q .0)) in
-        (once-values w v values, p .1 ∙ (ap (λ l. l ++ drop (length l) before) same ∙ sym (q .1)))
-    go (no n) =
-        let p = a .longer (omega arith) in
-        let q = b .longer (omega (arith, ap length same)) in
-        let values = p .0 ∙ (ap (λ l. 15 ∷ length l ∷ []) same ∙ sym (q .0)) in
-        (once-values w v values, p .1 ∙ sym (q .1))
-
-module _ {sheet before : List ℕ} {returned : Written} {after : List ℕ} (w : Wrote sheet before returned after) where
-  -- a buffer of exactly the sheet's length is enough, and holds just the sheet
-  pub exact : length before ≡ length sheet → (returned ≡ Whole (length sheet)) × (after ≡ sheet)
-  exact e =
-      let p = w .otherwise (omega arith) in
-      let past : drop (length sheet) before ≡ [] = drop-of-length-le before {i = length sheet} (omega arith) in
-      (once-values returned (Whole (length sheet)) (p .0), p .1 ∙ (ap (λ l. sheet ++ l) past ∙ append-nil sheet))
-
-  -- one byte less is refused 15, and the buffer is unchanged
-  pub one-less : length before + 1 ≡ length sheet → (returned ≡ TooShort (length sheet)) × (after ≡ before)
-  one-less e =
-      let p = w .longer (omega arith) in
-      (once-values returned (TooShort (length sheet)) (p .0), p .1)
-
-  -- the length is returned in either outcome
-  pub length-is : lengthIn returned ≡ length sheet
-  length-is = go (decLe (length sheet) (length before))
-    where
-      go : Dec (length sheet ≤ length before) → lengthIn returned ≡ length sheet
-      go (yes h) = ap (λ values. getD values 1 0) (w .otherwise h .0)
-      go (no n) = ap (λ values. getD values 1 0) (w .longer (omega arith) .0)
-
--- any two outcomes that the contract admits are equal
-pub once : (text : List ℕ) (allowance : ℕ) (before : List ℕ) (w v : Written) (after later : List ℕ) → Writes text allowance before w after
-    → Writes text allowance before v later → (w ≡ v) × (after ≡ later)
-once text allowance before w v after later a b =
-    wrote-once (a .sheet) (b .sheet) before w v after later (sheet-once (a .of-text) (b .of-text)) (a .wrote) (b .wrote)
-
--- ---- whole sheets
-
--- a blank array of 8,128 bytes, written to
-pub fills-is : (sheet : List ℕ) {returned : Written} (r : Sheet) → length sheet ≤ longestSheet → Wrote sheet (replicate longestSheet 0) returned (r .bytes)
-    → r .size ≡ lengthIn returned → Fills sheet r
-unfolding padded
-fills-is sheet {returned} r most w e =
-    let blank : List ℕ = replicate longestSheet 0 in
-    let room : length sheet ≤ length blank = rw length-replicate most in
-    record {
-      size = e ∙ length-is w;
-      bytes = w .otherwise room .1 ∙ ap (λ rest. sheet ++ rest) (drop-replicate (length sheet) longestSheet 0);
-    }
-
-pub fills-once : (s t : List ℕ) (r q : Sheet) → s ≡ t → Fills s r → Fills t q → r ≡ q
-fills-once s t r q same a b = λ i. record {
-  bytes = (a .bytes ∙ (ap (padded longestSheet 0) same ∙ sym (b .bytes))) i;
-  size = (a .size ∙ (ap length same ∙ sym (b .size))) i;
-}
-
-pub counted : {sheet : List ℕ} {r : Sheet} → Fills sheet r → Counted r
-unfolding padded
-counted {sheet} {r} w =
-    let zeros : List ℕ = replicate (longestSheet - length sheet) 0 in
-    let fits : r .size ≤ length (r .bytes) = omega (arith, w .size, ap length (w .bytes), length-append sheet zeros) in
-    (fits, sym (length-take-le (r .size) (r .bytes) fits))
-
-module _ {text : List ℕ} {allowance : ℕ} where
-  pub whole-is : {returned : Written} (r : Sheet) → Writes text allowance (replicate longestSheet 0) returned (r .bytes) → r .size ≡ lengthIn returned
-      → IsWhole text allowance r
-  whole-is r w e = record { sheet = w .sheet; of-text = w .of-text; fills = fills-is (w .sheet) r (sheet-most (w .of-text)) (w .wrote) e }
-
-  -- any two whole sheets that the contract admits are equal
-  pub whole-once : (r q : Sheet) → IsWhole text allowance r → IsWhole text allowance q → r ≡ q
-  whole-once r q a b = fills-once (a .sheet) (b .sheet) r q (sheet-once (a .of-text) (b .of-text)) (a .fills) (b .fills)
+pub whole-once : OneWhole SheetFor
+whole-once = one-whole SheetFor sheet-once
 
 -- ---- demand 1
 
@@ -130,7 +45,7 @@ refusal-answer f a some solved beside = λ i. record { solved = solved i; verdic
     unjudged : a .verdict ≡ Unjudged
     unjudged = verdict-once (a .verdict) Unjudged (beside .refused (λ e. omega (arith, e, some, number)))
 
-pub demand-1 : (text : List ℕ) (allowance : ℕ) (before : List ℕ) (returned : Written) (after : List ℕ) → Writes text allowance before returned after
+pub demand-1 : (text : List ℕ) (allowance : ℕ) (before : List ℕ) (returned : Written) (after : List ℕ) → Writes SheetFor text allowance before returned after
     → Demand1 text allowance before returned after
 demand-1 text allowance before returned after w = record {
   answer = answer;

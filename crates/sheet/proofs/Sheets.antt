@@ -2,11 +2,10 @@
 -- 8,128 bytes always suffice. All of it goes back to the one answer that the contract of `judge` admits. Assumes nothing.
 use Prim.Native.Nat.{ℕ, _+_, _*_, _<_, _≤_}
 use mathlib.Core.Path.{_≡_, refl, sym, ap, subst⁻¹, _∙_}
-use mathlib.Core.List.{List, [], _∷_, _++_}
+use mathlib.Core.List.{List}
 use mathlib.Core.Logic.{⊎-elim}
 use native.Mathlib.Omega.{arith}
-use lib.ListN.{length, drop}
-use lib.Seq.{sets-eq}
+use lib.ListN.{length}
 use Rattle.limits.specs.Limits.{mostBinders, levelSets}
 use Rattle.reading.specs.Plan.{Outcome, refused, read, Plan, planIn}
 use Rattle.solving.specs.declared.Solved.{Solved}
@@ -20,43 +19,31 @@ use Rattle.judging.proofs.Demands.{once as answer-once, computed as answer-comp
 use Rattle.sheet.specs.declared.Written.the-variants.{Whole, TooShort}
 use Rattle.putting.specs.Characters.{hexLines}
 use Rattle.sheet.specs.Sheet.{solutionLines, sheetOf, SheetFor}
-use Rattle.sheet.specs.Write.{Wrote, Writes, longestSheet}
+use Rattle.sheet.specs.Write.{Writes, longestSheet}
 use Rattle.sheet.specs.inner.Compute.{sheetFor}
 use Rattle.putting.specs.Put.{Put}
 use Rattle.sheet.proofs.Filling.{filled-most}
 use Rattle.sheet.proofs.Parts.{solution-size, refused-size, judged-size}
+use Rattle.sheet.proofs.Writing.{OneSheet, short-wrote, whole-wrote}
 
 -- ---- the two ways in which the code returns
-
-pub short-wrote : (sheet before : List ℕ) (size : ℕ) → size ≡ length sheet → length before < size → Wrote sheet before (TooShort size) before
-short-wrote sheet before size e l = record { longer = λ _. (ap (λ n. 15 ∷ n ∷ []) e, refl); otherwise = λ h. absurd (omega arith) }
-
-pub whole-wrote : (sheet before after : List ℕ) (size next : ℕ) → size ≡ length sheet → size ≤ length before → Put before 0 sheet after next
-    → Wrote sheet before (Whole size) after
-whole-wrote sheet before after size next e l p = record {
-  longer = λ h. absurd (omega arith);
-  otherwise = λ h. (ap (λ n. 0 ∷ n ∷ []) e, p .stands ∙ (sets-eq sheet before 0 (omega arith) ∙ ap (λ n. sheet ++ drop n before) from));
-}
-  where
-    from : 0 + length sheet ≡ length sheet
-    from = omega arith
 
 module _ {text : List ℕ} {allowance : ℕ} {a : Answer} (judged : Judges (planIn text) allowance a) where
   its-sheet : SheetFor text allowance (sheetOf a)
   its-sheet = record { answer = a; judged = judged; is = refl }
 
-  pub short-writes : (before : List ℕ) (size : ℕ) → size ≡ length (sheetOf a) → length before < size → Writes text allowance before (TooShort size) before
+  pub short-writes : (before : List ℕ) (size : ℕ) → size ≡ length (sheetOf a) → length before < size → Writes SheetFor text allowance before (TooShort size) before
   short-writes before size e l = record { sheet = sheetOf a; of-text = its-sheet; wrote = short-wrote (sheetOf a) before size e l }
 
   pub whole-writes : (before after : List ℕ) (size next : ℕ) → size ≡ length (sheetOf a) → size ≤ length before → Put before 0 (sheetOf a) after next
-      → Writes text allowance before (Whole size) after
-  whole-writes before after size next e l p = record { sheet = sheetOf a; of-text = its-sheet; wrote = whole-wrote (sheetOf a) before after size next e l p }
+      → Writes SheetFor text allowance before (Whole size) after
+  whole-writes before after size next e l p = record { sheet = sheetOf a; of-text = its-sheet; wrote = whole-wrote (sheetOf a) before size e after next l p }
 
 -- ---- the sheet
 
 -- a text has one sheet within an allowance
-pub sheet-once : {text : List ℕ} {allowance : ℕ} {s t : List ℕ} → SheetFor text allowance s → SheetFor text allowance t → s ≡ t
-sheet-once {text} {allowance} a b =
+pub sheet-once : OneSheet SheetFor
+sheet-once text allowance s t a b =
     a .is ∙ (ap sheetOf (answer-once text allowance (a .answer) (b .answer) (a .judged) (b .judged)) ∙ sym (b .is))
 
 -- it is the computed one

@@ -1,14 +1,14 @@
--- Document 01, refusal 15 and what the sheet operation returns and leaves in the buffer; and a whole sheet, in an array of its own.
+-- Document 01, refusal 15 and what the sheet operation returns and leaves in the buffer; and a whole sheet, in an array of its own. Which sheet is
+-- meant is a parameter: `IsSheet text allowance sheet` says that a sheet is that of a text within an allowance of rounds.
 -- Assumes nothing.
 use Prim.Native.Nat.{ℕ, _<_, _≤_}
 use mathlib.Core.Path.{_≡_}
 use mathlib.Core.List.{List, [], _∷_, _++_}
 use lib.ListN.{length, drop, take, getD}
-use Rattle.reading.specs.Plan.{padded}
+use Rattle.lines.specs.Values.{padded}
 use Rattle.sheet.specs.declared.Sheet.{Sheet}
 use Rattle.sheet.specs.declared.Written.{Written}
 use Rattle.sheet.specs.declared.Written.the-variants.{Whole, TooShort}
-use Rattle.sheet.specs.Sheet.{SheetFor}
 
 -- the number and the length that each outcome returns: 0 and the sheet's length; 15 and the length needed
 abbrev pub valuesOf : Written → List ℕ
@@ -27,9 +27,9 @@ pub record Wrote (sheet before : List ℕ) (returned : Written) (after : List �
   pub otherwise : length sheet ≤ length before → (valuesOf returned ≡ 0 ∷ length sheet ∷ []) × (after ≡ sheet ++ drop (length sheet) before)
 
 -- the same, by the text and the allowance of rounds
-pub record Writes (text : List ℕ) (allowance : ℕ) (before : List ℕ) (returned : Written) (after : List ℕ) : Type 0 where
+pub record Writes (IsSheet : List ℕ → ℕ → List ℕ → Type 0) (text : List ℕ) (allowance : ℕ) (before : List ℕ) (returned : Written) (after : List ℕ) : Type 0 where
   pub sheet : List ℕ
-  pub of-text : SheetFor text allowance sheet
+  pub of-text : IsSheet text allowance sheet
   pub wrote : Wrote sheet before returned after
 
 -- the bytes that suffice for every sheet
@@ -42,9 +42,9 @@ pub record Fills (sheet : List ℕ) (r : Sheet) : Type 0 where
   pub bytes : r .bytes ≡ padded longestSheet 0 sheet
 
 -- the whole sheet of a text
-pub record IsWhole (text : List ℕ) (allowance : ℕ) (r : Sheet) : Type 0 where
+pub record IsWhole (IsSheet : List ℕ → ℕ → List ℕ → Type 0) (text : List ℕ) (allowance : ℕ) (r : Sheet) : Type 0 where
   pub sheet : List ℕ
-  pub of-text : SheetFor text allowance sheet
+  pub of-text : IsSheet text allowance sheet
   pub fills : Fills sheet r
 
 -- its size counts bytes of its array. That follows, and is said for those who take the front part of the array

@@ -2,7 +2,9 @@
 // operation from text. The sheet's length is known first, so that a buffer that is too short is not touched;
 // then it is written once, from its start. Proved: the buffer holds the document's sheet and is otherwise as it was, or all of it is.
 ghost use mathlib.Core.Path.{_≡_};
-ghost use Rattle.sheet.specs.Write.{lengthIn, Writes, IsWhole, Counted};
+ghost use lib.ListN.{take};
+ghost use Rattle.sheet.specs.Sheet.{SheetFor};
+ghost use Rattle.sheet.specs.Write.{lengthIn, Wrote, Writes, IsWhole, Counted};
 use crate::answers::length_of;
 use crate::answers::put_answer;
 
@@ -22,7 +24,7 @@ pub enum Written {
 // Writes the sheet of a text, within an allowance of rounds, from the buffer's start and changes nothing past it; a buffer that is too
 // short stays as it is.
 pub fn write(text: &[u8], allowance: u16, buffer: &mut [u8]) -> Written
-    ensures { λ r. ⌜ Writes (now (text .entry)) allowance (now (buffer .entry)) r (now (buffer .exit)) ⌝ }
+    ensures { λ r. ⌜ Writes SheetFor (now (text .entry)) allowance (now (buffer .entry)) r (now (buffer .exit)) ⌝ }
 {
     let answer = judging::judge(text, allowance);
     let size = length_of(answer);
@@ -54,7 +56,7 @@ pub fn length_in(written: Written) -> usize
 
 // The whole sheet of a text, within an allowance of rounds.
 pub fn whole(text: &[u8], allowance: u16) -> Sheet
-    ensures { λ r. ⌜ IsWhole (now (text .entry)) allowance r ⌝ }
+    ensures { λ r. ⌜ IsWhole SheetFor (now (text .entry)) allowance r ⌝ }
     ensures { λ r. ⌜ Counted r ⌝ }
 {
     let mut bytes = [0u8; LONGEST];
@@ -63,4 +65,18 @@ pub fn whole(text: &[u8], allowance: u16) -> Sheet
         bytes,
         size: length_in(written),
     }
+}
+
+// Writes a whole sheet, whichever it is, from the buffer's start and changes nothing past it; a buffer that is too short stays as it is.
+pub fn copy(made: Sheet, buffer: &mut [u8]) -> Written
+    requires { ⌜ Counted made ⌝ }
+    ensures { λ r. ⌜ Wrote (take (made .size) (made .bytes)) (now (buffer .entry)) r (now (buffer .exit)) ⌝ }
+{
+    let bytes = made.bytes;
+    let length = made.size;
+    if buffer.len() < length {
+        return Written::TooShort(length);
+    }
+    putting::put_text(buffer, 0, &bytes[..length]);
+    Written::Whole(length)
 }

@@ -14,7 +14,7 @@ same-length : tie.Need-same-length
 same-length c = search needs
 
 returns : tie.Need-returns
-returns c = answers _ _ _ _ _ _ (c .length-in .ensures) (c .before .before .before .write .ensures)
+returns c = answers (c .length-in .ensures) (c .before .before .before .write .ensures)
 
 pub hjaltropa-sheet-spec : {M : Type 1} → statement M
 hjaltropa-sheet-spec = tie.close (tie.spec write-requires length-in-requires same-length returns)

@@ -1,8 +1,8 @@
 -- `whole`: a blank array, which holds any reach sheet, with the sheet at its start. Assumes nothing.
 use native.Mathlib.Omega.{arith}
 use borrow.Author.Needs.{needs}
-use Rattle.sheet.proofs.Demands.{counted}
-use Rattle.reach_sheet.proofs.Reached.{reach-most, whole-is}
+use Rattle.sheet.proofs.Writing.{counted}
+use Rattle.reach_sheet.proofs.Reached.{reach-most, reach-whole}
 use Rattle.reach_sheet.proofs.whole.Statement.{statement}
 use Rattle.reach_sheet.proofs.whole.Tie as tie
 
@@ -18,7 +18,7 @@ put-received-requires c κs = record { fits = omega (arith, reach-most (c .befor
 returns : tie.Need-returns
 returns c =
     let put = c .before in
-    let is = whole-is _ (put .before .before .reach .ensures) (put .put-received .ensures) in
+    let is = reach-whole (put .before .before .reach .ensures) _ (put .put-received .ensures) in
     (is, counted (is .fills))
 
 pub whole-spec : {M : Type 1} → statement M

@@ -1,6 +1,7 @@
 -- `whole`: a blank array of 8,128 bytes is written to, which holds any sheet. Assumes nothing.
 use borrow.Author.Needs.{needs}
-use Rattle.sheet.proofs.Demands.{whole-is, counted}
+use Rattle.sheet.proofs.Sheets.{sheet-most}
+use Rattle.sheet.proofs.Writing.{whole-is, counted}
 use Rattle.sheet.proofs.whole.Statement.{statement}
 use Rattle.sheet.proofs.whole.Tie as tie
 
@@ -15,7 +16,7 @@ length-in-requires c κs = search needs
 
 returns : tie.Need-returns
 returns c =
-    let is = whole-is _ (c .before .before .write .ensures) (c .length-in .ensures) in
+    let is = whole-is _ (λ sheet is. sheet-most is) (c .before .before .write .ensures) (c .length-in .ensures) in
     (is, counted (is .fills))
 
 pub whole-spec : {M : Type 1} → statement M

@@ -1,6 +1,6 @@
 -- `value`: each return is the definition's answer under the tests that led to it. Assumes nothing.
 use Rattle.inputs.specs.Header.{digitValue}
-use Rattle.lines.proofs.Tests.{tests}
+use Rattle.text.proofs.Tests.{tests}
 use borrow.Author.Needs.{needs}
 use Rattle.inputs.proofs.header.value.Statement.{statement}
 use Rattle.inputs.proofs.header.value.Tie as tie

@@ -1,0 +1,3 @@
+-- The laws and theorems of the word sheet.
+mod Naming
+pub mod Words
