@@ -19,7 +19,6 @@ expect 'a file with a blank' 1 "$work/breach.sheet" ./sheet "$work/a b"
 odd=$(printf '\377\nb')
 cp "$work/breach.plan" "$work/$odd"
 expect 'a file with an odd name' 1 "$work/breach.sheet" ./sheet "$work/$odd"
-brief='flow breach: level 5 may send handle 29 on channel 17 to level 3'
 printf '\377?b: %s\n' "$brief" >"$work/both"
 expect 'an odd name on its line' 1 "$work/both" sh -c "cd '$work' && '$root/sheet' --each '$odd'"
 expect 'an odd name of no file' 3 "$work/nothing" sh -c "cd '$work' && '$root/sheet' '$odd.none'"
@@ -48,14 +47,16 @@ where FILE is -, the plan is read from standard input.
   ./sheet --words examples/breaks.plan
               the whole sheet, and what it says
 
-  --words     after the sheet, say in sentences what it says
+  --words     after the sheet, print the word sheet, the proved verdict in one line with
+              the plan's labels, and say in sentences what the sheet says
   --reaches   say whether a level may receive HANDLE, a channel's number in decimal, and
               on which channel; no sheet. Without --level, a line for each level of the
               plan and one for the whole relay
   --level     the LEVEL that --reaches asks after: 0 to 6, or 7 or '#' for the whole
               relay, its desks and what the plan has outside them
   --source    the text is a source: its remarks (# to the line's end), blanks, tabs and a
-              carriage return at a line's end are left out, and A-F count as a-f
+              carriage return at a line's end are left out, A-F count as a-f, and text
+              between double quotes, such as a label, stands for its bytes in UTF-8
   --plan      the text is a plan's text, taken strictly
   --each      one line for each FILE: its name, and the verdict or the refusal
   --help      this text

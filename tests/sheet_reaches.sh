@@ -172,17 +172,17 @@ lines 'The plan is refused at line 18: an offer has no handle (refusal 16).' >"$
 asks 'a question of a plan with an offer without a handle' 2 --reaches 0 --level 6 "$work/16.plan"
 lines 'The plan is refused after the last line: the text ends before the tree is closed (refusal 12).' >"$work/wanted"
 asks 'a question of a plan cut short' 2 --reaches 0 --level 7 "$work/12.plan"
-for number in 2 3 4 5 6 7 8 10 11 13; do
+for number in 2 3 4 5 6 7 8 10 11 13 17 18; do
     ./sheet --words "$work/$number.plan" | tail -n 1 >"$work/wanted"
     asks "a question of a plan that is refused $number" 2 --reaches 31 --level 6 "$work/$number.plan"
 done
 sed 's/^12 05 04 /12 05 09 /' examples/keeps.source >"$work/source"
-lines 'The plan is refused at line 22 of the source: a name is used that has no meaning there (refusal 9).' >"$work/wanted"
+lines 'The plan is refused at line 30 of the source: a name is used that has no meaning there (refusal 9).' >"$work/wanted"
 asks 'a question of a refused source' 2 --reaches 2 --level 0 "$work/source"
 expect 'a question of a refused source on standard input' 2 "$work/wanted" sh -c "./sheet --reaches 2 <'$work/source'"
 silent
 sed 's/^03 00 00000004 /03 00 00000000 /' examples/keeps.source >"$work/source"
-lines 'The plan is refused at line 15 of the source: an offer has no handle (refusal 16).' >"$work/wanted"
+lines 'The plan is refused at line 16 of the source: an offer has no handle (refusal 16).' >"$work/wanted"
 asks 'a question of a source with an offer without a handle' 2 --reaches 2 --level 0 "$work/source"
 lines "The plan is refused at line 1: the line has a character other than 0-9 a-f ('#', place 1) and has an odd number of characters (refusal 2)." \
     >"$work/wanted"

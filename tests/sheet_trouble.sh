@@ -16,9 +16,13 @@ false_sheet() {
     PATH="$work/bin:$PATH" "$clone/sheet" "$@"
 }
 
-# program LINE..: the clone's program is this script. toolchain LINE..: rt is. Both forget their calls.
+# program LINE..: the clone's program plan is this script. wording LINE..: its program words is. toolchain LINE..: rt is. All forget their calls.
 program() {
     lines "$@" >"$clone/target/bin/plan"
+    : >"$work/runs"
+}
+wording() {
+    lines "$@" >"$clone/target/bin/words"
     : >"$work/runs"
 }
 toolchain() {
@@ -61,7 +65,8 @@ silent
 
 # A program is as new as its source.
 toolchain "printf '%s\n' 'echo 3f0e0000' 'echo refused' >target/bin/plan" "$(printing "$unchanged" 'rt: plan proved (7 s)' 'rt: ok, 6 crates proved')"
-lines 3f0e0000 refused 'The plan is refused: more rounds are needed than were allowed (refusal 14).' >"$work/both"
+wording 'echo refused'
+lines 3f0e0000 refused refused 'The plan is refused: more rounds are needed than were allowed (refusal 14).' >"$work/both"
 expect 'the new program runs' 2 "$work/both" false_sheet --words "$work/plan"
 says "$note" "$unchanged" 'rt: plan proved (7 s)' 'rt: ok, 6 crates proved'
 program "$clear"
@@ -242,7 +247,7 @@ unfitting --plan 3f100002 refused
 unfitting --plan 3f100004 refused
 unfitting --plan 3f100005 refused
 unfitting --plan 3f100006 refused
-lines 3f100003 refused 'The plan is refused at line 3: an offer has no handle (refusal 16).' >"$work/both"
+lines 3f100003 refused refused 'The plan is refused at line 3: an offer has no handle (refusal 16).' >"$work/both"
 program "$(printing 3f100003 refused)"
 expect 'an offer without a handle' 2 "$work/both" false_sheet --words "$work/plan"
 silent
@@ -268,7 +273,8 @@ unfitting --words 2f0002 21071180000000 21071200000024 3001 'flow clear'
 unfitting --words 2f0002 21071180000000 22071200000024 3001 'flow clear'
 lines 2f0002 22071180000001 22071200000024 3001 'flow clear' >"$work/offered"
 program "cat '$work/offered'"
-lines "$yes" "$outside" 'From outside, handle 31 may be sent on channel 17, where no level may receive it.' \
+wording 'echo clear'
+lines clear "$yes" "$outside" 'From outside, handle 31 may be sent on channel 17, where no level may receive it.' \
     'From outside, handle 2 may be sent on channel 18, where no level may receive it.' \
     'From outside, handle 5 may be sent on channel 18, where no level may receive it.' | cat "$work/offered" - >"$work/both"
 expect 'a yes that has all that is offered' 0 "$work/both" false_sheet --words "$work/plan"
@@ -279,7 +285,8 @@ lines 010120000001 031180000000 020000 10 >"$work/plan"
 unfitting --words 2f0002 22071180000000 3001 'flow clear'
 lines 010101000000 15 10 >"$work/plan"
 program "$(printing 3f630003 refused)"
-lines 3f630003 refused 'The plan is refused at line 3: for a reason that this program does not know (refusal 99).' >"$work/both"
+wording 'echo refused'
+lines 3f630003 refused refused 'The plan is refused at line 3: for a reason that this program does not know (refusal 99).' >"$work/both"
 expect 'an unknown refusal' 2 "$work/both" false_sheet --words "$work/plan"
 
 # A clone that can't be written: rt would go by its old log, and is not asked. Each folder that rt writes in is tried.

@@ -6,6 +6,7 @@ use std::path::Path;
 use crate::arguments::{self, Request, USAGE};
 use crate::head::Head;
 use crate::input::Input;
+use crate::labels::Labels;
 use crate::output::{message, message_about, print};
 use crate::outside;
 use crate::program;
@@ -15,6 +16,7 @@ use crate::refusal::{account, Account};
 use crate::sheet::{self, Breach, Refusal, Sets, Sheet, OUTSIDE};
 use crate::text::{Form, Text};
 use crate::tree::from_outside;
+use crate::word_sheet;
 use crate::words;
 
 const VERSION: &str = concat!(
@@ -36,14 +38,16 @@ where FILE is -, the plan is read from standard input.
   ./sheet --words examples/breaks.plan
               the whole sheet, and what it says
 
-  --words     after the sheet, say in sentences what it says
+  --words     after the sheet, print the word sheet, the proved verdict in one line with
+              the plan's labels, and say in sentences what the sheet says
   --reaches   say whether a level may receive HANDLE, a channel's number in decimal, and
               on which channel; no sheet. Without --level, a line for each level of the
               plan and one for the whole relay
   --level     the LEVEL that --reaches asks after: 0 to 6, or 7 or '#' for the whole
               relay, its desks and what the plan has outside them
   --source    the text is a source: its remarks (# to the line's end), blanks, tabs and a
-              carriage return at a line's end are left out, and A-F count as a-f
+              carriage return at a line's end are left out, A-F count as a-f, and text
+              between double quotes, such as a label, stands for its bytes in UTF-8
   --plan      the text is a plan's text, taken strictly
   --each      one line for each FILE: its name, and the verdict or the refusal
   --help      this text
@@ -73,9 +77,9 @@ pub enum Status {
     Trouble = 3,
 }
 
-/// An answer to a plan: the sheet's bytes, and what they say.
+/// An answer to a plan: what is printed, which begins with the sheet, and what the sheet says.
 struct Answer {
-    sheet: Vec<u8>,
+    output: Vec<u8>,
     verdict: Verdict,
 }
 
@@ -132,14 +136,14 @@ fn one(root: &Path, words: bool, form: Option<Form>, input: &Input) -> Result<St
         Ok(text) => text,
         Err(what) => return Ok(trouble_about(input, &what)),
     };
-    let proved = prove(root, Program::Plan)?;
-    let told = answer(&proved, &text).and_then(|Answer { mut sheet, verdict }| {
-        if words {
-            sheet.extend(lines(&sentences(&verdict, &text)?));
-        }
-        Ok((sheet, verdict))
-    });
-    let (output, verdict) = match told {
+    let told = if words {
+        let [plan, words] = prove(root, [Program::Plan, Program::Words])?;
+        answer_in_words(&plan, &words, &text)
+    } else {
+        let [plan] = prove(root, [Program::Plan])?;
+        answer(&plan, &text)
+    };
+    let Answer { output, verdict } = match told {
         Ok(told) => told,
         Err(what) => return Ok(trouble_about(input, &what)),
     };
@@ -161,7 +165,7 @@ fn reaches(
         Ok(text) => text,
         Err(what) => return Ok(trouble_about(input, &what)),
     };
-    let proved = prove(root, Program::Reaches)?;
+    let [proved] = prove(root, [Program::Reaches])?;
     match reply(&proved, question, &text) {
         Ok((status, sentences)) => {
             print(&lines(&sentences))?;
@@ -175,7 +179,7 @@ fn reaches(
 fn each(root: &Path, form: Option<Form>, inputs: &[Input]) -> Result<Status, String> {
     // All is read before the lock is taken, so that nobody waits for what this waits for.
     let texts: Vec<Result<Text, String>> = inputs.iter().map(|input| read(input, form)).collect();
-    let proved = prove(root, Program::Plan)?;
+    let [proved] = prove(root, [Program::Plan])?;
     let mut worst = Status::Good;
     for (input, text) in inputs.iter().zip(texts) {
         let (status, told) = match text.and_then(|text| answer(&proved, &text)) {
@@ -201,13 +205,49 @@ fn trouble_about(input: &Input, what: &str) -> Status {
 
 /// The answer of the proved program to a text, or why there is none.
 fn answer(proved: &Proved, text: &Text) -> Result<Answer, String> {
-    let sheet = program::answer(proved, &text.plan())?;
-    let verdict = match sheet::parse(&sheet).ok_or("the program printed no sheet")? {
+    let output = program::answer(proved, &text.plan())?;
+    let verdict = match sheet::parse(&output).ok_or("the program printed no sheet")? {
         Sheet::Clear(sets) => Verdict::Clear(sets),
         Sheet::Breach(breach) => Verdict::Breach(breach),
         Sheet::Refused(refusal) => Verdict::Refused(told(&refusal, text)?),
     };
-    Ok(Answer { sheet, verdict })
+    Ok(Answer { output, verdict })
+}
+
+/// The answer of two proved programs to a text, its sheet and its word sheet, with sentences behind
+/// them, or why there is none.
+fn answer_in_words(plan: &Proved, words: &Proved, text: &Text) -> Result<Answer, String> {
+    let Answer {
+        mut output,
+        verdict,
+    } = answer(plan, text)?;
+    let sentences = sentences(&verdict, text)?;
+    let line = word_line(&verdict, &text.plan())?;
+    output.extend(printed_line(words, &line, &text.plan())?);
+    output.extend(lines(&sentences));
+    Ok(Answer { output, verdict })
+}
+
+/// The line of the word sheet that goes with a verdict on a plan, or that the sheet is of another.
+fn word_line(verdict: &Verdict, plan: &[u8]) -> Result<String, String> {
+    // A faulty label is refused, whatever the verdict would be.
+    let labels = Labels::of(plan).ok_or(UNFITTING);
+    Ok(match verdict {
+        Verdict::Clear(_) => labels.map(|_| word_sheet::CLEAR.to_owned())?,
+        Verdict::Breach(breach) => word_sheet::breach(breach, &labels?),
+        Verdict::Refused(_) => word_sheet::REFUSED.to_owned(),
+    })
+}
+
+/// The word sheet that the proved program prints for a plan, if it has this line, or why there is
+/// none.
+fn printed_line(proved: &Proved, line: &str, plan: &[u8]) -> Result<Vec<u8>, String> {
+    let output = program::answer(proved, plan).map_err(|what| format!("no word sheet: {what}"))?;
+    match word_sheet::parse(&output) {
+        Some(printed) if printed == line => Ok(output),
+        Some(_) => Err("the word sheet does not fit the plan and its sheet".to_owned()),
+        None => Err("the program printed no word sheet".to_owned()),
+    }
 }
 
 /// The account of a refusal of a text, or that it is of another.
@@ -285,6 +325,7 @@ mod tests {
         };
         let head = Head {
             channels: 20,
+            binders: 0,
             highest_level: 2,
             free_names: 0,
         };

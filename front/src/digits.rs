@@ -11,6 +11,12 @@ pub fn bytes_of(line: &[u8]) -> Option<Vec<u8>> {
         .collect()
 }
 
+/// The two lower-case hexadecimal digits that give a byte.
+pub fn digits_of(byte: u8) -> [u8; 2] {
+    const DIGITS: &[u8; 16] = b"0123456789abcdef";
+    [byte >> 4, byte & 0x0f].map(|value| DIGITS[usize::from(value)])
+}
+
 /// The value of a lower-case hexadecimal digit.
 pub fn digit(character: u8) -> Option<u8> {
     match character {
@@ -30,6 +36,15 @@ mod tests {
         assert_eq!(bytes_of(b""), Some(Vec::new()));
         for line in ["0", "0a1", "0A", "0g", "0/", "0:", "0`", " 0"] {
             assert_eq!(bytes_of(line.as_bytes()), None, "{line}");
+        }
+    }
+
+    #[test]
+    fn each_byte_is_given_by_its_digits() {
+        assert_eq!(digits_of(0x0a), *b"0a");
+        assert_eq!(digits_of(0xf9), *b"f9");
+        for byte in 0..=u8::MAX {
+            assert_eq!(bytes_of(&digits_of(byte)), Some(vec![byte]));
         }
     }
 }

@@ -1,10 +1,11 @@
-//! Has a program proved and built from the source as it is now, one `./sheet` at
+//! Has programs proved and built from the source as it is now, one `./sheet` at
 //! a time.
 
 use std::fs::{self, File, OpenOptions, TryLockError};
 use std::io::{self, BufRead, BufReader, ErrorKind, PipeReader};
 use std::path::Path;
 use std::process::{Child, Command};
+use std::rc::Rc;
 use std::sync::mpsc::{self, RecvTimeoutError};
 use std::thread;
 use std::time::{Duration, Instant};
@@ -34,6 +35,8 @@ pub enum Program {
     Plan,
     /// Prints a plan's reach sheet.
     Reaches,
+    /// Prints a plan's word sheet.
+    Words,
 }
 
 impl Program {
@@ -42,6 +45,7 @@ impl Program {
         match self {
             Program::Plan => "plan",
             Program::Reaches => "reaches",
+            Program::Words => "words",
         }
     }
 }
@@ -50,21 +54,25 @@ impl Program {
 pub struct Proved<'a> {
     pub root: &'a Path,
     pub program: Program,
-    _lock: File,
+    _lock: Rc<File>,
 }
 
-/// Proves and builds a program where its source has changed, or says why that can't be.
-pub fn prove(root: &Path, program: Program) -> Result<Proved<'_>, String> {
+/// Proves and builds programs where their source has changed, or says why that can't be.
+pub fn prove<const COUNT: usize>(
+    root: &Path,
+    programs: [Program; COUNT],
+) -> Result<[Proved<'_>; COUNT], String> {
     let lock = lock(root).map_err(|error| format!("crates.txt can't be locked: {error}"))?;
     write_everywhere(root).map_err(|what| {
         format!("this clone can't be written, so nothing is proved in it: {what}")
     })?;
-    check(root, program, &lock)?;
-    Ok(Proved {
+    check(root, &programs.map(Program::name), &lock)?;
+    let lock = Rc::new(lock);
+    Ok(programs.map(|program| Proved {
         root,
         program,
-        _lock: lock,
-    })
+        _lock: Rc::clone(&lock),
+    }))
 }
 
 /// The lock that each `./sheet` of a clone takes: on a file that is always there, and that rt never
@@ -111,9 +119,9 @@ fn append_to_all(folder: &Path) -> io::Result<()> {
     Ok(())
 }
 
-/// Runs `rt check` on a program and shows its lines as they come, or says that it failed.
-fn check(root: &Path, program: Program, lock: &File) -> Result<(), String> {
-    let started = start(root, program, lock);
+/// Runs `rt check` on programs and shows its lines as they come, or says that it failed.
+fn check(root: &Path, names: &[&str], lock: &File) -> Result<(), String> {
+    let started = start(root, names, lock);
     let (reader, mut rt) = started.map_err(|error| match error.kind() {
         ErrorKind::NotFound => "the toolchain is not there: no command rt".to_owned(),
         _ => format!("rt could not be started: {error}"),
@@ -138,18 +146,19 @@ fn check(root: &Path, program: Program, lock: &File) -> Result<(), String> {
             news.show();
             Err(format!(
                 "the program could not be proved: 'rt check {}' ended with {status}",
-                program.name()
+                names.join(" ")
             ))
         }
         Err(error) => Err(format!("rt's end could not be seen: {error}")),
     }
 }
 
-/// Starts `rt check` on a program, and gives what it prints on either output.
-fn start(root: &Path, program: Program, lock: &File) -> io::Result<(PipeReader, Child)> {
+/// Starts `rt check` on programs, and gives what it prints on either output.
+fn start(root: &Path, names: &[&str], lock: &File) -> io::Result<(PipeReader, Child)> {
     let (reader, writer) = io::pipe()?;
     let rt = Command::new("rt")
-        .args(["check", program.name()])
+        .arg("check")
+        .args(names)
         .current_dir(root)
         // Rt reads nothing: as its input the lock outlives this process, should it be killed.
         .stdin(lock.try_clone()?)

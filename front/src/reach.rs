@@ -3,8 +3,8 @@
 
 use std::collections::BTreeMap;
 
-use crate::head::Head;
-use crate::sheet::{has_sets, parts, refusal, Refusal, CHANNELS, OUTSIDE, REFUSED};
+use crate::head::{Head, Kind};
+use crate::sheet::{has_sets, parts, refusal, Refusal, CHANNELS, REFUSED};
 
 /// Which handle is asked after, and at which level or, as `OUTSIDE`, in the whole relay; without
 /// one, at every level.
@@ -17,25 +17,14 @@ pub struct Question {
 impl Question {
     /// Whether a plan with this head has what is asked after, or what it has instead.
     pub fn asks_of(&self, head: &Head) -> Result<(), String> {
-        if self.handle >= head.channels {
-            return Err(none_such("channel", self.handle, head.channels - 1));
+        if !head.has(Kind::Channel, self.handle) {
+            return Err(head.lacks(Kind::Channel, self.handle));
         }
         match self.level {
-            Some(level) if level > head.highest_level && level != OUTSIDE => {
-                Err(none_such("level", level, head.highest_level))
-            }
+            Some(level) if !head.has(Kind::Level, level) => Err(head.lacks(Kind::Level, level)),
             _ => Ok(()),
         }
     }
-}
-
-/// That a plan has no channel or level of a number, and which it has.
-fn none_such(what: &str, number: u8, highest: u8) -> String {
-    let those = match highest {
-        0 => format!("its only {what} is 0"),
-        _ => format!("its {what}s are 0 to {highest}"),
-    };
-    format!("the plan has no {what} {number}: {those}")
 }
 
 /// A well-formed reach sheet.
@@ -61,9 +50,9 @@ impl Received {
     /// Whether a plan with this head has each level, handle and channel that is named.
     pub fn fits(&self, head: &Head) -> bool {
         self.channels.iter().all(|((level, handle), channel)| {
-            (*level <= head.highest_level || *level == OUTSIDE)
-                && *handle < head.channels
-                && *channel < head.channels
+            head.has(Kind::Level, *level)
+                && head.has(Kind::Channel, *handle)
+                && head.has(Kind::Channel, *channel)
         })
     }
 }
@@ -100,6 +89,7 @@ fn received(frames: &[Vec<u8>]) -> Option<Received> {
 #[cfg(test)]
 mod tests {
     use super::*;
+    use crate::sheet::OUTSIDE;
 
     fn parsed(lines: &[&str]) -> Option<Reach> {
         parse((lines.join("\n") + "\n").as_bytes())
@@ -170,6 +160,7 @@ mod tests {
         let asked = |handle, level, channels, highest_level| {
             Question { handle, level }.asks_of(&Head {
                 channels,
+                binders: 0,
                 highest_level,
                 free_names: 0,
             })
@@ -197,6 +188,7 @@ mod tests {
         let fits = |channels, highest_level| {
             received.fits(&Head {
                 channels,
+                binders: 0,
                 highest_level,
                 free_names: 0,
             })
@@ -207,6 +199,7 @@ mod tests {
         let channel = super::received(&[vec![0x23, 0, 0, 5]]).unwrap();
         let head = Head {
             channels: 5,
+            binders: 0,
             highest_level: 0,
             free_names: 0,
         };

@@ -1,9 +1,10 @@
 //! Refusals in words: where the fault stands in the text as it was written, and what it is.
 
 use crate::digits::{bytes_of, digit};
+use crate::labels::{Fault, Labels, LONGEST};
+use crate::sections::{Frame, LABEL, OFFER};
 use crate::sheet::Refusal;
 use crate::text::{Line, Text};
-use crate::tree::OFFER;
 
 /// Where a refusal points.
 #[derive(Debug, PartialEq, Eq)]
@@ -28,18 +29,20 @@ pub fn account(refusal: &Refusal, text: &Text) -> Option<Account> {
     let line = usize::from(refusal.line);
     let (place, reason) = match number {
         0 => return None,
-        1 | 14 if line == 0 => (Place::Text, reason(number).to_owned()),
+        1 | 14 if line == 0 => (Place::Text, reason(number, &[]).to_owned()),
         1 | 14 => return None,
-        12 if text.next_line() == Some(line) => (Place::End, reason(number).to_owned()),
+        12 if text.next_line() == Some(line) => (Place::End, reason(number, &[]).to_owned()),
         12 => return None,
         _ => {
-            let line = text.line(line)?;
-            let reason = match number {
-                2 => faults(&line)?,
-                16 if !offers_nothing(&line) => return None,
-                _ => reason(number).to_owned(),
+            let there = text.line(line)?;
+            let frame = frame(&there).unwrap_or_default();
+            let reason = match (number, &frame[..]) {
+                (2, _) => faults(&there)?,
+                (4 | 7 | 8, [LABEL, ..]) | (17 | 18, _) => of_label(number, line, text)?,
+                (16, frame) if !offers_nothing(frame) => return None,
+                (_, frame) => reason(number, frame).to_owned(),
             };
-            (Place::Line(line.number), reason)
+            (Place::Line(there.number), reason)
         }
     };
     Some(Account {
@@ -49,11 +52,22 @@ pub fn account(refusal: &Refusal, text: &Text) -> Option<Account> {
     })
 }
 
-/// The reason that stands for a refusal's number, whatever the line.
-fn reason(number: u8) -> &'static str {
+/// The reason that stands for a refusal's number at a frame, unless the line or a label has reasons
+/// of its own.
+fn reason(number: u8, frame: &[u8]) -> &'static str {
     match number {
         1 => "the text is empty or longer than 16,384 bytes",
-        3 => "the line's first byte isn't allowed at this point",
+        3 => match frame {
+            [OFFER, ..] => {
+                "an offer isn't allowed at this point: offers stand behind the free names, before \
+                 the labels and the tree"
+            }
+            [LABEL, ..] => {
+                "a label isn't allowed at this point: labels stand behind the offers, before the \
+                 tree"
+            }
+            _ => "the line's first byte isn't allowed at this point",
+        },
         4 => "the line has the wrong number of bytes for its first one",
         5 => "the edition is another than 01",
         6 => "the number of channels, binders, levels or free names is outside its limits",
@@ -73,11 +87,49 @@ fn reason(number: u8) -> &'static str {
     }
 }
 
-/// Whether a line is an offer without a handle.
-fn offers_nothing(line: &Line) -> bool {
+/// Whether a frame is an offer without a handle.
+fn offers_nothing(frame: &[u8]) -> bool {
+    matches!(frame, [OFFER, _, 0, 0, 0, 0])
+}
+
+/// The frame of a line, if it is a line of digits.
+fn frame(line: &Line) -> Option<Frame> {
     let characters = line.characters.iter();
     let digits: Vec<u8> = characters.map(|character| character.byte).collect();
-    line.ended && matches!(bytes_of(&digits).as_deref(), Some([OFFER, _, 0, 0, 0, 0]))
+    line.ended.then(|| bytes_of(&digits)).flatten()
+}
+
+/// Why the label on a line of the plan's text is refused with a number; nothing where its first
+/// fault has another, or where it has none.
+fn of_label(number: u8, line: usize, text: &Text) -> Option<String> {
+    let fault = Labels::last_fault(&text.up_to(line))?;
+    if fault.refusal() != number {
+        return None;
+    }
+    Some(match fault {
+        Fault::Length(0) => format!("a label has 1 to {LONGEST} bytes, and this one has none"),
+        Fault::Length(bytes) => {
+            format!("a label has 1 to {LONGEST} bytes, and this one has {bytes}")
+        }
+        Fault::Kind(kind) => format!(
+            "a label is of kind 00 (channel), 01 (binder) or 02 (level), and this one of {kind:02x}"
+        ),
+        Fault::Number(lacking) => lacking,
+        Fault::Order => {
+            "the labels are not strictly ascending, by kind and then by number".to_owned()
+        }
+        Fault::Malformed(byte) => {
+            format!("the label is not well-formed UTF-8 from its byte {byte} on")
+        }
+        Fault::Control(byte, code) => {
+            format!("the label has a control character (code {code:02x}, byte {byte})")
+        }
+        Fault::Repeated(lines, kind) => {
+            let earlier = text.line(line.checked_sub(lines)?)?.number;
+            let kind = kind.word();
+            format!("the same label stands at line {earlier} already, for another {kind}")
+        }
+    })
 }
 
 /// What makes a line no line of digits, all of it, or nothing.
@@ -184,10 +236,151 @@ mod tests {
         assert_eq!(reason, "an offer has no handle");
         let source = "# x\n010120000000\n\n 03 1F 0000 0000 # none\n10";
         assert_eq!(told(16, 2, source).unwrap().0, Place::Line(4));
-        for (number, what) in [(7, "an offered handle"), (8, "the channels of the offers")] {
+        for (number, what) in [
+            (3, "offers stand behind the free names"),
+            (7, "an offered handle"),
+            (8, "the channels of the offers"),
+        ] {
             let (place, reason) = told(number, 3, plan).unwrap();
             assert_eq!(place, Place::Line(3));
             assert!(reason.contains(what), "{reason}");
+        }
+        let (_, reason) = told(3, 4, plan).unwrap();
+        assert_eq!(reason, "the line's first byte isn't allowed at this point");
+    }
+
+    /// A plan of 10 channels, 3 binders and levels 0 to 4: labels for channels 2 and 9, binder 1 and
+    /// level 2, and on line 6 this one.
+    fn with_label(last: &str) -> String {
+        format!("01010a030400\n0400026d\n0400096e\n0401016d\n0402026f\n{last}\n10\n")
+    }
+
+    #[test]
+    fn the_refusals_of_a_label_say_what_is_wrong_with_it() {
+        for (number, label, reason) in [
+            (4, "04", "a label has 1 to 60 bytes, and this one has none"),
+            (
+                4,
+                "0402",
+                "a label has 1 to 60 bytes, and this one has none",
+            ),
+            (
+                4,
+                "040203",
+                "a label has 1 to 60 bytes, and this one has none",
+            ),
+            (
+                4,
+                &["040203", &"61".repeat(61)].concat(),
+                "a label has 1 to 60 bytes, and this one has 61",
+            ),
+            (
+                7,
+                "041a006d",
+                "a label is of kind 00 (channel), 01 (binder) or 02 (level), and this one of 1a",
+            ),
+            (
+                7,
+                "04000a6d",
+                "the plan has no channel 10: its channels are 0 to 9",
+            ),
+            (
+                7,
+                "0401036d",
+                "the plan has no binder 3: its binders are 0 to 2",
+            ),
+            (
+                7,
+                "0402056d",
+                "the plan has no level 5: its levels are 0 to 4",
+            ),
+            (
+                8,
+                "0402026d",
+                "the labels are not strictly ascending, by kind and then by number",
+            ),
+            (
+                8,
+                "0400016f",
+                "the labels are not strictly ascending, by kind and then by number",
+            ),
+            (
+                17,
+                "0402036161ff",
+                "the label is not well-formed UTF-8 from its byte 3 on",
+            ),
+            (
+                17,
+                "0402076d1b6d",
+                "the label has a control character (code 1b, byte 2)",
+            ),
+            (
+                18,
+                "0402076f",
+                "the same label stands at line 5 already, for another level",
+            ),
+        ] {
+            let plan = with_label(label);
+            assert_eq!(
+                told(number, 6, &plan),
+                Some((Place::Line(6), reason.to_owned())),
+                "{label}"
+            );
+            // No other refusal of a label is this one's, nor this one another line's.
+            for other in [4, 7, 8, 17, 18] {
+                for line in 1..=8 {
+                    let believed = told(other, line, &plan).is_some();
+                    let own = (other, line) == (number, 6);
+                    let of_others = other < 16 && [1, 7].contains(&line);
+                    assert_eq!(believed, own || of_others, "{label}: {other} at {line}");
+                }
+            }
+        }
+        for label in ["0402036d", "040207c3a9"] {
+            for number in [4, 7, 8, 17, 18] {
+                assert_eq!(told(number, 6, &with_label(label)), None, "{label}");
+            }
+        }
+        let (place, reason) = told(3, 6, &with_label("0402036d")).unwrap();
+        assert_eq!(place, Place::Line(6));
+        assert!(
+            reason.contains("labels stand behind the offers"),
+            "{reason}"
+        );
+    }
+
+    #[test]
+    fn a_label_that_stands_already_is_shown_where_it_was_written() {
+        let source = "# labels\n01 01 0a 03 04 00\n\n04 00 02 \"m\" # works\n\n04 00 03 \"n\"\n\
+                      # again\n04 00 09 6D\n04 01 00 \"o\"\n10\n";
+        let (place, reason) = told(18, 4, source).unwrap();
+        assert_eq!(place, Place::Line(8));
+        assert_eq!(
+            reason,
+            "the same label stands at line 4 already, for another channel"
+        );
+        let source = "# one\n01 01 0a 03 04 00\n04 00 02 \"m\tn\"\n10\n";
+        let (place, reason) = told(17, 2, source).unwrap();
+        assert_eq!(place, Place::Line(3));
+        assert_eq!(
+            reason,
+            "the label has a control character (code 09, byte 2)"
+        );
+    }
+
+    #[test]
+    fn a_place_behind_quotes_is_that_of_the_line_as_it_was_written() {
+        for (line, place) in [
+            ("04 02 01 \"મીના\" x # \"", "('x', place 17)"),
+            ("04 02 01 \"મીના", "('\"', place 10)"),
+            ("04 02 01 \"A\" # \" ", "none"),
+            ("04 02 0 \"A\"", "('\"', place 9)"),
+        ] {
+            let source = format!("# x\n010101000100\n{line}\n10\n");
+            match told(2, 2, &source) {
+                Some((_, reason)) => assert!(reason.contains(place), "{line}: {reason}"),
+                None => assert_eq!(place, "none", "{line}"),
+            }
         }
     }
 

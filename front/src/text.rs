@@ -3,6 +3,8 @@
 
 use std::borrow::Cow;
 
+use crate::source;
+
 const BYTE_ORDER_MARK: &[u8] = b"\xef\xbb\xbf";
 
 /// The two forms in which a plan is written.
@@ -37,7 +39,7 @@ pub struct Line {
     pub ended: bool,
 }
 
-/// A character of the plan's text, with its place, from 1, in the line as it was written.
+/// A byte of the plan's text, with the place of its character, from 1, in the line as it was written.
 #[derive(Clone, Copy, Debug, PartialEq, Eq)]
 pub struct Character {
     pub byte: u8,
@@ -69,6 +71,11 @@ impl Text {
         self.lines().nth(number.checked_sub(1)?)
     }
 
+    /// The plan's text up to the line with this number, and with it.
+    pub fn up_to(&self, number: usize) -> Vec<u8> {
+        self.lines().take(number).flat_map(Line::bytes).collect()
+    }
+
     /// The number of the line that would come next; nothing where a line is still unended or there
     /// is none at all.
     pub fn next_line(&self) -> Option<usize> {
@@ -88,7 +95,7 @@ impl Text {
         let numbered = written.split_inclusive(|byte| *byte == b'\n').zip(1..);
         numbered.filter_map(|(line, number)| match self.form {
             Form::Plan => Some(as_it_stands(line, number)),
-            Form::Source => without_remark(line, number),
+            Form::Source => given_by(line, number),
         })
     }
 }
@@ -102,10 +109,21 @@ impl Line {
     }
 }
 
-/// The characters with their places, from 1.
-fn placed(line: &[u8]) -> impl Iterator<Item = Character> + '_ {
-    let numbered = line.iter().zip(1..);
-    numbered.map(|(&byte, place)| Character { byte, place })
+/// The bytes of a line, each with the place of its character, from 1. What belongs to no character
+/// counts byte by byte.
+fn placed(line: &[u8]) -> Vec<Character> {
+    let mut placed = Vec::with_capacity(line.len());
+    let mut place = 0;
+    for chunk in line.utf8_chunks() {
+        let characters = chunk.valid().chars().map(char::len_utf8);
+        let others = chunk.invalid().iter().map(|_| 1);
+        for length in characters.chain(others) {
+            place += 1;
+            let bytes = &line[placed.len()..][..length];
+            placed.extend(bytes.iter().map(|&byte| Character { byte, place }));
+        }
+    }
+    placed
 }
 
 /// A line of a plan's text, which may be the last and lack its line feed.
@@ -113,36 +131,21 @@ fn as_it_stands(line: &[u8], number: usize) -> Line {
     let characters = line.strip_suffix(b"\n");
     Line {
         number,
-        characters: placed(characters.unwrap_or(line)).collect(),
+        characters: placed(characters.unwrap_or(line)),
         ended: characters.is_some(),
     }
 }
 
-/// The line of the plan's text that a source's line gives, if it has more than blanks and a remark.
-fn without_remark(line: &[u8], number: usize) -> Option<Line> {
+/// The line of the plan's text that a source's line gives, if it gives one.
+fn given_by(line: &[u8], number: usize) -> Option<Line> {
     let line = line.strip_suffix(b"\n").unwrap_or(line);
     let line = line.strip_suffix(b"\r").unwrap_or(line);
-    let characters: Vec<Character> = placed(line)
-        .take_while(|character| character.byte != b'#')
-        .filter(|character| !matches!(character.byte, b' ' | b'\t'))
-        .map(|character| Character {
-            byte: lower_digit(character.byte),
-            ..character
-        })
-        .collect();
-    (!characters.is_empty()).then_some(Line {
+    let characters = source::given(&placed(line))?;
+    Some(Line {
         number,
         characters,
         ended: true,
     })
-}
-
-/// A digit A to F as a plan's text has it, and any other byte as it is.
-fn lower_digit(byte: u8) -> u8 {
-    match byte {
-        b'A'..=b'F' => byte.to_ascii_lowercase(),
-        _ => byte,
-    }
 }
 
 #[cfg(test)]
@@ -201,6 +204,7 @@ mod tests {
             (b"\xef\xbb\xbf\xef\xbb\xbf10\n", b"\xef\xbb\xbf10\n"),
             (b"1G\n", b"1G\n"),
             (b"# nothing", b""),
+            (b"\"10\"\r\n\"\"\r\n\"1\n0\"\n", b"3130\n\n\"1\n0\"\n"),
         ] {
             assert_eq!(plan_of(written, Some(Form::Source)), plan);
         }
@@ -270,5 +274,34 @@ mod tests {
             }
         );
         assert_eq!(text.line(3), None);
+    }
+
+    #[test]
+    fn a_place_counts_characters() {
+        let places = |line: &[u8]| {
+            let placed = placed(line).into_iter();
+            Vec::from_iter(placed.map(|character| character.place))
+        };
+        assert_eq!(places(b"1x"), [1, 2]);
+        assert_eq!(
+            places("é મx\u{10ffff}y".as_bytes()),
+            [1, 1, 2, 3, 3, 3, 4, 5, 5, 5, 5, 6]
+        );
+        assert_eq!(places(b"\xffx\xe0\xaax\x80\x80"), [1, 2, 3, 4, 5, 6, 7]);
+        for line in ["é મx", "", "\u{10ffff}"] {
+            let bytes = placed(line.as_bytes()).into_iter();
+            assert_eq!(Vec::from_iter(bytes.map(|c| c.byte)), line.as_bytes());
+        }
+    }
+
+    #[test]
+    fn a_text_is_cut_behind_a_line() {
+        let text = Text::new(b"#\n01\n\n \"a\"\n1\n".to_vec(), None);
+        assert_eq!(text.up_to(0), b"");
+        assert_eq!(text.up_to(2), b"01\n61\n");
+        assert_eq!(text.up_to(9), b"01\n61\n1\n");
+        let text = Text::new(b"01\n61".to_vec(), None);
+        assert_eq!(text.up_to(1), b"01\n");
+        assert_eq!(text.up_to(2), b"01\n61");
     }
 }

@@ -4,8 +4,7 @@
 
 use std::collections::BTreeMap;
 
-use crate::digits::bytes_of;
-use crate::head::Head;
+use crate::sections::{Frame, Sections, OFFER};
 use crate::sheet::{members, Bits};
 
 /// What a name means.
@@ -36,9 +35,6 @@ pub struct FromOutside {
     pub sends: Vec<SendNode>,
 }
 
-/// The first byte of an offer.
-pub const OFFER: u8 = 0x03;
-
 /// A place in the tree where a node is still to come.
 #[derive(Clone)]
 struct Place {
@@ -61,22 +57,16 @@ impl Place {
 
 /// What a plan has outside every desk; nothing for a text that is no plan.
 pub fn from_outside(plan: &[u8]) -> Option<FromOutside> {
-    let lines = plan.strip_suffix(b"\n")?.split(|byte| *byte == b'\n');
-    let frames: Vec<Vec<u8>> = lines.map(bytes_of).collect::<Option<_>>()?;
-    let free_names = usize::from(Head::of(plan)?.free_names);
-    let (names, behind) = frames.get(1..)?.split_at_checked(free_names)?;
-    let is_node = |frame: &Vec<u8>| frame.first() != Some(&OFFER);
-    let first_node = behind.iter().position(is_node)?;
-    let (offers, nodes) = behind.split_at(first_node);
-    let offers: Option<Vec<Offer>> = offers.iter().map(|frame| offer(frame)).collect();
+    let sections = Sections::of(plan)?;
+    let offers: Option<Vec<Offer>> = sections.offers.iter().map(|frame| offer(frame)).collect();
     Some(FromOutside {
         offers: offers?,
-        sends: sends(root(names)?, nodes)?,
+        sends: sends(root(&sections.free_names)?, &sections.nodes)?,
     })
 }
 
 /// The place of the tree's first node, where the free names have their meanings.
-fn root(names: &[Vec<u8>]) -> Option<Place> {
+fn root(names: &[Frame]) -> Option<Place> {
     let mut root = Place {
         meanings: BTreeMap::new(),
         bracketed: false,
@@ -103,7 +93,7 @@ fn offer(frame: &[u8]) -> Option<Offer> {
 }
 
 /// The sends that stand in no bracket, where the nodes are one tree.
-fn sends(root: Place, nodes: &[Vec<u8>]) -> Option<Vec<SendNode>> {
+fn sends(root: Place, nodes: &[Frame]) -> Option<Vec<SendNode>> {
     let mut sends = Vec::new();
     let mut open = vec![root];
     for frame in nodes {
@@ -222,6 +212,26 @@ mod tests {
     }
 
     #[test]
+    fn labels_between_the_offers_and_the_tree_are_passed_over() {
+        let plan = [
+            "010120000002",
+            "020011",
+            "02031d",
+            "030580000001",
+            "0400054d",
+            "0402000303",
+            "04020710",
+            "120003",
+            "10",
+        ];
+        assert_eq!(offers(&plan), Some(vec![(5, vec![0, 31])]));
+        assert_eq!(sends(&plan), Some(vec![(Channel(17), Channel(29))]));
+        let bare = ["010120000000", "04001112", "10"];
+        assert_eq!(offers(&bare), Some(Vec::new()));
+        assert_eq!(sends(&bare), Some(Vec::new()));
+    }
+
+    #[test]
     fn what_is_no_plan_has_nothing_outside() {
         for lines in [
             &["010101000000"][..],
@@ -242,6 +252,12 @@ mod tests {
             &["010101000000", "03", "10"],
             &["010101000000", "030000000001", "020000", "10"],
             &["030000000001", "010101000000", "10"],
+            &["010101000000", "04000041"],
+            &["010101000000", "10", "04000041"],
+            &["010101000000", "11", "04000041", "10"],
+            &["010101000001", "04000041", "020000", "10"],
+            &["010101000000", "04000041", "030000000001", "10"],
+            &["04000041", "010101000000", "10"],
             &[""],
         ] {
             assert_eq!(outside(lines), None, "{lines:?}");
