@@ -1,9 +1,10 @@
 /* Asks one plan and prints one line: its verdict, or why there is none.
 
      cc -std=c11 -O2 -o ask examples/ask.c target/staticlib/libgateway.a
-     ./ask [FILE]     FILE is a plan's text; `-` or no FILE reads standard input
+     ./ask [--words] [FILE]     FILE is a plan's text; `-` or no FILE reads standard input
 
-   Exit status, as that of ./sheet: 0 clear, 1 a breach, 2 refused, 3 trouble of its own. */
+   With --words the line is the word sheet, which has the plan's own labels. Exit status, as that of ./sheet: 0 clear, 1 a breach, 2 refused,
+   3 trouble of its own. */
 #include "gateway.h"
 
 #include <stdio.h>
@@ -29,35 +30,53 @@ static const char *last_lines(const char *sheet) {
     return from;
 }
 
-/* Prints what a sheet says; the exit status. */
-static int print_verdict(const char *sheet) {
+/* Writes what a sheet says to a line; the exit status. */
+static int read_verdict(const char *sheet, char *said, size_t room) {
     const char *lines = last_lines(sheet);
     const char *last = strchr(lines, '\n');
     unsigned higher, lower, channel, handle, number, line;
     if (strcmp(lines, "3001\nflow clear\n") == 0) {
-        puts("flow clear");
+        snprintf(said, room, "flow clear\n");
         return CLEAR;
     }
     if (last != NULL && strcmp(last, "\nflow breach\n") == 0 && sscanf(lines, "3000%2x%2x%2x%2x", &higher, &lower, &channel, &handle) == 4) {
-        printf("flow breach: level %u may send handle %u on channel %u, where level %u may receive it\n", higher, handle, channel, lower);
+        snprintf(said, room, "flow breach: level %u may send handle %u on channel %u, where level %u may receive it\n", higher, handle, channel,
+                 lower);
         return BREACH;
     }
     if (last != NULL && strcmp(last, "\nrefused\n") == 0 && sscanf(lines, "3f%2x%4x", &number, &line) == 2) {
-        printf("refused: number %u, line %u\n", number, line);
+        snprintf(said, room, "refused: number %u, line %u\n", number, line);
         return REFUSED;
     }
     trouble("no sheet came back");
     return TROUBLE;
 }
 
+/* Writes the word sheet of a text to a line; it has to say what the exit status says. */
+static void ask_words(const uint8_t *text, size_t length, int status, char *said, size_t room) {
+    const char *opening = status == CLEAR ? "clear\n" : status == BREACH ? "breach " : "refused\n";
+    size_t size = hjaltropa_words(text, length, HJALTROPA_ROUNDS, (uint8_t *)said, room - 1);
+    if (room - 1 < size) {
+        trouble("the word sheet is longer than any should be");
+    }
+    said[size] = '\0';
+    if (strncmp(said, opening, strlen(opening)) != 0) {
+        trouble("the word sheet says something else than the sheet");
+    }
+}
+
 int main(int count, char **words) {
-    /* A byte more than a plan may have: a longer text is refused by what was read of it. The sheet gets a zero behind it, as a string has. */
+    /* A byte more than a plan may have: a longer text is refused by what was read of it. The sheet and the line get a zero behind them, as strings
+       have; a line with numbers is shorter than a word sheet may be. */
     static uint8_t text[HJALTROPA_TEXT + 1];
     static uint8_t sheet[HJALTROPA_SHEET + 1];
-    if (2 < count) {
-        trouble("usage: ask [FILE]");
+    static char said[HJALTROPA_WORDS + 1];
+    int in_words = 1 < count && strcmp(words[1], "--words") == 0;
+    const char *file = 1 + in_words < count ? words[1 + in_words] : "-";
+    if (2 + in_words < count) {
+        trouble("usage: ask [--words] [FILE]");
     }
-    FILE *input = count < 2 || strcmp(words[1], "-") == 0 ? stdin : fopen(words[1], "rb");
+    FILE *input = strcmp(file, "-") == 0 ? stdin : fopen(file, "rb");
     if (input == NULL) {
         trouble("the file can't be opened");
     }
@@ -68,8 +87,11 @@ int main(int count, char **words) {
     if (HJALTROPA_SHEET < hjaltropa_sheet(text, length, HJALTROPA_ROUNDS, sheet, HJALTROPA_SHEET)) {
         trouble("the sheet is longer than any should be");
     }
-    int status = print_verdict((const char *)sheet);
-    if (fclose(stdout) != 0) {
+    int status = read_verdict((const char *)sheet, said, sizeof said);
+    if (in_words) {
+        ask_words(text, length, status, said, sizeof said);
+    }
+    if (fputs(said, stdout) == EOF || fclose(stdout) != 0) {
         trouble("the verdict can't be printed");
     }
     return status;

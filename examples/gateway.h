@@ -1,9 +1,9 @@
-/* The answer sheet and the reach sheet of a routing plan, for gateways in C and C++. Link libgateway.a, which `rt staticlib gateway` writes to
-   target/staticlib/:
+/* The answer sheet, the reach sheet and the word sheet of a routing plan, for gateways in C and C++. Link libgateway.a, which
+   `rt staticlib gateway` writes to target/staticlib/:
 
        cc -std=c11 -O2 -o ask examples/ask.c target/staticlib/libgateway.a
 
-   ask.c asks one plan and prints its verdict; threads.c asks many at once, and gateway.c tries buffers of all lengths, both for either sheet. */
+   ask.c asks one plan and prints its verdict; threads.c asks many at once, and gateway.c tries buffers of all lengths, both for any sheet. */
 #ifndef HJALTROPA_GATEWAY_H
 #define HJALTROPA_GATEWAY_H
 
@@ -20,14 +20,18 @@ extern "C" {
 /* Bytes that suffice for every sheet, and for every reach sheet. */
 #define HJALTROPA_SHEET 8128
 
+/* Bytes that suffice for every word sheet. */
+#define HJALTROPA_WORDS 114
+
 /* The longest text in bytes that is not refused 1. Who reads a text keeps a byte more, and hands on what came: then a longer text is refused,
    and never cut to one that is a plan. */
 #define HJALTROPA_TEXT 16384
 
-/* Bytes of stack that suffice for a call. Measured, not proved: the deepest call in examples/threads.c, hjaltropa_reach on a tree of depth 33,
-   took 305,063 with the library optimised for x86-64, as the toolchain compiles it; the rest is margin. What the caller's own functions take
-   comes on top. The main thread and most others have more than that; a thread that is given a small stack has to be given so much. */
-#define HJALTROPA_STACK 393216
+/* Bytes of stack that suffice for a call. Measured, not proved: the deepest calls in examples/threads.c, on a tree of depth 33, took 322,879
+   (hjaltropa_sheet), 336,015 (hjaltropa_reach) and 334,991 (hjaltropa_words) with the library optimised for x86-64, as the toolchain compiles
+   it; the rest is margin. What the caller's own functions take comes on top. The main thread and most others have more than that; a thread that
+   is given a small stack has to be given so much. */
+#define HJALTROPA_STACK 458752
 
 /* The length of the sheet of a text, within an allowance of rounds. Where the buffer is as long or longer, the sheet stands at its start
    and nothing past it is changed; where it is shorter, nothing of it is changed. Any text, allowance and length will do; the pointers are
@@ -64,6 +68,24 @@ size_t hjaltropa_sheet(const uint8_t *text, size_t text_length, uint16_t allowan
    stands the line `reach complete`. A text that hjaltropa_sheet refuses within the same allowance is refused here by the same two lines,
    3fnnllll and `refused`. */
 size_t hjaltropa_reach(const uint8_t *text, size_t text_length, uint16_t allowance, uint8_t *buffer, size_t buffer_length);
+
+/* The length of the word sheet of a text: its verdict in one line for people, with the plan's own labels. All that is said of hjaltropa_sheet
+   holds of this function too: the length is returned in any case, a buffer that is shorter is unchanged, and HJALTROPA_WORDS bytes always
+   suffice. The line, which ends in its line feed, is one of three:
+
+       clear
+       breach HIGH to LOW on CHANNEL: OBJECT
+       refused
+
+   It has the verdict of the sheet within the same allowance, and the breach is the one that the sheet names: HIGH may send OBJECT on CHANNEL,
+   where LOW, which is lower, may receive it. Each of the four is the plan's label for it, byte for byte; of a label of more than 24 bytes, the
+   longest beginning of whole characters that has no more than 24. What has no label is `level 1` or `channel 0`, with its number in decimal. The
+   line is well-formed UTF-8, and no zero is put behind it.
+
+   The line is for people, and a program reads the verdict off the sheet: a label may hold any words, those of the line among them, so that its
+   parts can't be told from each other. A label has no character below 20 hex, and no 7f. All others stand on the line as they do in the plan, the
+   controls from 80 to 9f hex and the marks that turn the direction of writing too: a caller whose screen obeys these takes them out. */
+size_t hjaltropa_words(const uint8_t *text, size_t text_length, uint16_t allowance, uint8_t *buffer, size_t buffer_length);
 
 #ifdef __cplusplus
 }

@@ -1,7 +1,7 @@
-/* Asks the plans in files, all at once, and prints their sheets, or their reach sheets, in the files' order.
+/* Asks the plans in files, all at once, and prints their sheets, or their reach sheets or word sheets, in the files' order.
 
      cc -std=c11 -O2 -pthread -o threads examples/threads.c target/staticlib/libgateway.a
-     ./threads [reach] FILE..
+     ./threads [reach | words] FILE..
 
    Each plan is asked in a thread that has HJALTROPA_STACK bytes of stack and below them a page that nobody may touch, again and again until all
    have been asked many times, and each time the sheet has to be the one that it had when no other plan was asked. Before that the stack which a
@@ -114,6 +114,10 @@ static void read_plan(const char *file, struct asking *asking) {
 int main(int count, char **words) {
     if (1 < count && strcmp(words[1], "reach") == 0) {
         ask = hjaltropa_reach;
+    } else if (1 < count && strcmp(words[1], "words") == 0) {
+        ask = hjaltropa_words;
+    }
+    if (ask != hjaltropa_sheet) {
         count--;
         words++;
     }
@@ -121,7 +125,7 @@ int main(int count, char **words) {
     size_t deepest = 0;
     struct asking *askings = calloc(plans, sizeof *askings);
     if (plans == 0 || askings == NULL || pthread_barrier_init(&start, NULL, (unsigned)plans) != 0) {
-        trouble("usage: threads [reach] FILE..");
+        trouble("usage: threads [reach | words] FILE..");
     }
     for (size_t i = 0; i < plans; i++) {
         read_plan(words[i + 1], &askings[i]);
