@@ -1,8 +1,8 @@
 #!/bin/sh
 # Holds the pages against the program and the definitions: every example of docs/PLAN.md and docs/ANALYSIS.md byte for byte, the tables of frames,
-# limits, refusals, questions, first bytes and edges, the tables of rounds, the definitions and functions that are cited, README's tables of sheet lines,
-# the examples against their sources, and the links. Run from the root, with target/bin/plan built; a reach sheet is held against target/bin/reaches,
-# and an example with an allowance of its own goes through target/bin/batch.
+# limits, labels, refusals, questions, first bytes and edges, the tables of rounds, the definitions and functions that are cited, README's tables of sheet
+# lines, the examples against their sources, and the links. Run from the root, with target/bin/plan built; a reach sheet is held against
+# target/bin/reaches and a word sheet against target/bin/words, and an example with an allowance of its own goes through target/bin/batch.
 set -u
 LC_ALL=C
 export LC_ALL
@@ -43,16 +43,25 @@ tell() {
     done <"$1"
 }
 
-# program KIND ALLOWANCE: the program that prints the sheet or the reach sheet, as the kind says, with `-` as the allowance for their own.
+# program KIND ALLOWANCE: the program that prints the sheet, the reach sheet or the word sheet, as the kind says, with `-` as the allowance for their own.
 program() {
     case $1,$2 in
         sheet,-) echo target/bin/plan ;;
         reach,-) echo target/bin/reaches ;;
+        words,-) echo target/bin/words ;;
         *) echo target/bin/batch ;;
     esac
 }
 
-# answer TEXT KIND ALLOWANCE: the sheet or the reach sheet that the program prints. Batch prints both, the reach sheet behind the sheet.
+# Batch prints the sheet of a record, then its reach sheet, then its word sheet, which is a line. This leads an awk program from part to part of that.
+onward='
+    function part_after(part, line) {
+        if (part == "sheet") return line ~ /^(flow clear|flow breach|refused)$/ ? "reach" : part
+        if (part == "reach") return line ~ /^(reach complete|refused)$/ ? "words" : part
+        return "sheet"
+    }'
+
+# answer TEXT KIND ALLOWANCE: the sheet, the reach sheet or the word sheet that the program prints.
 answer() {
     if [ "$3" = - ]; then
         ./run "$(program "$2" -)" <"$1"
@@ -60,11 +69,18 @@ answer() {
         {
             printf '%08x%08x\n' $(($(wc -c <"$1"))) "$3"
             cat "$1"
-        } | ./run target/bin/batch | awk -v kind="$2" '
+        } | ./run target/bin/batch | awk -v kind="$2" "$onward"'
             BEGIN { part = "sheet" }
             part == kind
-            /^(flow clear|flow breach|refused)$/ { part = "reach" }'
+            { part = part_after(part, $0) }'
     fi
+}
+
+# firsts: the first line of the sheet of each of many texts, by one run of batch. A text is a line, with ` / ` between its own lines.
+firsts() {
+    awk '{ gsub(/ \/ /, "\n"); text = $0 "\n"; printf "%08x%08x\n%s", length(text), 17409, text }' | ./run target/bin/batch | awk "$onward"'
+        BEGIN { part = "sheet" }
+        { if (part == "sheet" && !inside) print; inside = part == "sheet"; part = part_after(part, $0) }'
 }
 
 # same NAME WANTED GOT: two files are the same, byte for byte.
@@ -80,7 +96,7 @@ same() {
 # can_fail CHECK..: a check that is handed a fault counts it. It is tried in a shell of its own, so that only the trial is counted; and where the check
 # holds all the same nothing below says anything, so that this is the end.
 can_fail() {
-    if [ "$("$@" >"$work/out"; echo $failed)" = 1 ]; then
+    if [ "$("$@" >"$work/out"; echo $failed)" = $((failed + 1)) ]; then
         held
     else
         echo "pages.sh: this check can not fail: $*"
@@ -120,12 +136,14 @@ section() {
     finish
 }
 
+. tests/plain.sh
 . tests/pages_examples.sh
 . tests/pages_tables.sh
+. tests/pages_labels.sh
 . tests/pages_refusals.sh
 . tests/pages_relays.sh
 . tests/pages_names.sh
 
 # Fewer checks than these were made only if some are lost.
-hold 'checks are lost' [ $((passed + failed)) -ge 1035 ]
+hold 'checks are lost' [ $((passed + failed)) -ge 1637 ]
 finish

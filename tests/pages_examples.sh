@@ -1,5 +1,5 @@
-# The examples of the pages, byte for byte; an example of every node and of what an offer can meet; what tables of rounds and sentences say of the sheets
-# beside them. Read by tests/pages.sh.
+# The examples of the pages, byte for byte; an example of every node, of what an offer and a label can meet, and of every form of word sheet; what tables of
+# rounds and sentences say of the sheets beside them. Read by tests/pages.sh.
 
 # ---- the examples
 
@@ -16,15 +16,15 @@ spell='
     function begin_text(name, end) { file = name; ending = end; many = 0; printf "" > file }
     function end_text(unended) { if (many && !unended) printf "%s", ending > file; close(file) }'
 
-# pairs PAGE: each plan as NAME.N.text in the work folder, its sheet as NAME.N.sheet and its reach sheet as NAME.N.reach, one of them or both, and a
-# line of NAME.index for it: N, the line, the allowance, the heading.
+# pairs PAGE: each plan as NAME.N.text in the work folder, its sheet as NAME.N.sheet, its reach sheet as NAME.N.reach and its word sheet as
+# NAME.N.words, one of them or more, and a line of NAME.index for it: N, the line, the allowance, the heading. A plan with remarks is NAME.N.source first.
 pairs() {
     awk -v to="$work/$1" "$spell"'
         function bad(why) { print "fault", FILENAME ":" start ": " why > (to ".said") }
         function block(   word, words, i, option) {
             words = split(info, word, " ")
             if (word[1] == "text") return
-            if (word[1] == "sheet" || word[1] == "reach") {
+            if (word[1] ~ /^(sheet|reach|words)$/) {
                 if (!number || (number, word[1]) in has) { bad("a " word[1] " without its plan"); return }
                 begin_text(to "." number "." word[1], "\n")
                 for (i = 1; i <= size; i++) spell_line(body[i], 0)
@@ -34,17 +34,20 @@ pairs() {
                 pending = 0
                 return
             }
-            if (word[1] != "plan") { bad("a block that is no plan, sheet, reach or text: " info); return }
+            if (word[1] != "plan") { bad("a block that is no plan, sheet, reach, words or text: " info); return }
             if (pending) bad("no sheet for the plan at line " place)
             number++; pending = 1; place = start; allowance = "-"
             for (i in option) delete option[i]
             for (i = 2; i <= words; i++) {
                 if (word[i] == "allowance" && word[i + 1] ~ /^[0-9]+$/) allowance = word[++i]
-                else if (word[i] ~ /^(counted|unended|crlf)$/) option[word[i]] = 1
+                else if (word[i] ~ /^(counted|unended|crlf|source)$/) option[word[i]] = 1
                 else bad("a word that this test does not know: " word[i])
             }
-            begin_text(to "." number ".text", "crlf" in option ? "\r\n" : "\n")
-            for (i = 1; i <= size; i++) spell_line(body[i], "counted" in option)
+            begin_text(to "." number ("source" in option ? ".source" : ".text"), "crlf" in option ? "\r\n" : "\n")
+            for (i = 1; i <= size; i++) {
+                if ("source" in option && gsub(/"/, "\"", body[i]) % 2) bad("a quote that is not closed: " body[i])
+                spell_line(body[i], "counted" in option)
+            }
             end_text("unended" in option)
         }
         BEGIN { printf "" > (to ".said"); printf "" > (to ".index") }
@@ -57,12 +60,15 @@ pairs() {
             if (pending) bad("no sheet for the plan at line " place)
         }' "docs/$1.md"
     tell "$work/$1.said"
+    for source in "$work/$1".*.source; do
+        [ -f "$source" ] && plain "$source" >"${source%.source}.text"
+    done
 }
 
 for page in PLAN ANALYSIS; do
     pairs $page
     while read -r number line allowance heading; do
-        for kind in sheet reach; do
+        for kind in sheet reach words; do
             [ -f "$work/$page.$number.$kind" ] || continue
             needed=$(program $kind "$allowance")
             if [ ! -x "$needed" ]; then

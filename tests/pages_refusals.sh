@@ -1,4 +1,4 @@
-# The manual's tables of refusals: their rows and lines, the order of the questions, and which numbers of a frame can be refused for what, against the
+# The manual's tables of refusals: their rows and lines, the order of the questions, and which parts of a frame can be refused for what, against the
 # examples and the program. Read by tests/pages.sh.
 
 # ---- a row for every refusal, and an example of each that reading gives
@@ -7,13 +7,14 @@ section docs/PLAN.md '## Refusals' | sed -n 's/^| \([0-9][0-9]*\) | .* | \([a-z 
 sed 's/ .*//' "$work/refusals" >"$work/numbers"
 sort -nu "$work/numbers" >"$work/sorted"
 same 'docs/PLAN.md: the refusals do not stand in order, each once' "$work/sorted" "$work/numbers"
-for number in 1 2 3 4 5 6 7 8 9 10 11 12 13 16; do
+for number in 1 2 3 4 5 6 7 8 9 10 11 12 13 16 17 18; do
     hold "docs/PLAN.md: no row for refusal $number, given by reading" grep -qx "$number reading" "$work/refusals"
 done
-hold 'the refusals of reading are not 1 to 13 and 16' grep -qxF 'OfReading n = (1 ≤ n) × (n ≤ 16) × (n ≢ 14) × (n ≢ 15)' crates/lines/specs/Promise.antt
+hold 'the refusals of reading are not 1 to 13 and 16 to 18' grep -qxF 'OfReading n = (1 ≤ n) × (n ≤ 18) × (n ≢ 14) × (n ≢ 15)' crates/lines/specs/Promise.antt
 for number in 14 15; do
     hold "docs/PLAN.md: no row for refusal $number" grep -qx "$number" "$work/numbers"
 done
+hold 'docs/PLAN.md: there are other refusals than 1 to 18' [ "$(tail -n 1 "$work/numbers")" = 18 ]
 while read -r refusal giver; do
     [ "$giver" = reading ] || continue
     found=no
@@ -63,7 +64,7 @@ while read -r refusal words; do
 done <"$work/columns"
 hold 'docs/PLAN.md: refusal 15 has a line' grep -qx '15 none' "$work/columns"
 
-# ---- the order of the questions, and which numbers of a frame can be refused for what: the tables against the program
+# ---- the order of the questions, and which parts of a frame can be refused for what: the tables against the program
 
 # spelled TEXT: a text of lines between slashes, each as in the table of edges, in the file $work/text.
 spelled() {
@@ -110,10 +111,14 @@ done <<'END'
 4 7 set 010102000000 / 030100000001 / 030000000004
 4 8 offer 010102000000 / 030100000001 / 030000000000
 4 16 empty 010101000000 / 030000000000
-5 10 256 010101000000 / 15 11 11 11 11 11 11 11 11 11 11 11 11 11 11 11 10 x 14 / 11 x 18 / 11
-5 11 33 010101000000 / 11 x 32 / 124000
-5 7 level 010101000000 / 124000
-5 9 meaning 010101000000 / 120000
+5 7 kind 010101010000 / 04010061 / 04000161
+5 8 number 010102000000 / 04000161 / 04000080
+5 17 characters 010101000000 / 04000080
+5 18 same 010102000000 / 04000061 / 04000161
+6 10 256 010101000000 / 15 11 11 11 11 11 11 11 11 11 11 11 11 11 11 11 10 x 14 / 11 x 18 / 11
+6 11 33 010101000000 / 11 x 32 / 124000
+6 7 level 010101000000 / 124000
+6 9 meaning 010101000000 / 120000
 END
 hold "docs/PLAN.md: there are not $asked questions" [ "$(wc -l <"$work/questions")" -eq $asked ]
 
@@ -127,7 +132,7 @@ section docs/PLAN.md '### The order' | awk -F '|' '
             for (n = 1; n <= names; n++) { gsub(/ /, "", name[n]); if (name[n] != "") print frame[f], refusal[c], name[n] }
         }
     }' | sort >"$work/cells"
-# A frame, a refusal, the number of the frame that is at fault, and a text in which it alone is.
+# A frame, a refusal, the part of the frame that is at fault, and a text in which it alone is.
 cat >"$work/faults" <<'END'
 02 7 name 010101000001 / 024000
 02 7 channel 010101000001 / 020001
@@ -136,6 +141,12 @@ cat >"$work/faults" <<'END'
 03 7 set 010101000000 / 030000000002
 03 8 channel 010101000000 / 030000000001 / 030000000001
 03 16 set 010101000000 / 030000000000
+04 7 kind 010101000000 / 04030061
+04 7 number 010101000000 / 04000161
+04 8 kind 010101010000 / 04010061 / 04000062
+04 8 number 010102000000 / 04000161 / 04000062
+04 17 label 010101000000 / 0400007f
+04 18 label 010102000000 / 04000061 / 04000161
 12 7 x 010101000001 / 020000 / 124000
 12 7 y 010101000001 / 020000 / 120040
 12 9 x 010101000001 / 020000 / 120100
@@ -153,7 +164,7 @@ cat >"$work/faults" <<'END'
 19 7 level 010101000000 / 1901
 END
 sed 's,\([^ ]* [^ ]* [^ ]*\) .*,\1,' "$work/faults" | sort >"$work/wanted"
-same 'docs/PLAN.md: other numbers of a frame can be refused' "$work/wanted" "$work/cells"
+same 'docs/PLAN.md: other parts of a frame can be refused' "$work/wanted" "$work/cells"
 while read -r frame refusal name text; do
     hold "the program does not refuse the $name of $frame with $refusal: $text" refused_so "$refusal" "$text"
 done <"$work/faults"

@@ -1,13 +1,13 @@
-# The two relays in examples/: plan, source and sheet, what the manual quotes of them, and README's tables of their sheets. Read by tests/pages.sh.
+# The two relays in examples/: plan, source and sheets, what the manual quotes of them, and README's tables of their sheets. Read by tests/pages.sh.
 
-# ---- the examples: the plan is its source without remarks, and the sheet is what the program prints
+# ---- the examples: the plan is what its source gives, and the sheet and the word sheet are what the programs print
 
 some=no
 for source in examples/*.source; do
     name=${source%.source}
     [ -f "$source" ] || continue
     some=yes
-    tr -d '\r' <"$source" | sed 's/#.*//; s/[[:blank:]]//g; /^$/d' | tr 'A-F' 'a-f' >"$work/out"
+    plain "$source" >"$work/out"
     same "$name.plan is not its source" "$name.plan" "$work/out"
 done
 hold 'there are no sources in examples' [ $some = yes ]
@@ -16,6 +16,8 @@ for plan in examples/*.plan; do
     hold "$plan has no source" [ -f "$name.source" ]
     answer "$plan" sheet - >"$work/$(basename "$name").sheet"
     same "$name.sheet is not what the program prints" "$name.sheet" "$work/$(basename "$name").sheet"
+    answer "$plan" words - >"$work/$(basename "$name").words"
+    same "$name.words is not what the program prints" "$name.words" "$work/$(basename "$name").words"
 done
 
 # The second relay is the first with one line added, and its source differs in no more than the title, that line, and what the answer's remark then says.
@@ -38,19 +40,30 @@ section docs/PLAN.md '## Plans with remarks' | awk -v source=examples/keeps.sour
     }' >"$work/said"
 hold 'docs/PLAN.md quotes no example' [ -s "$work/said" ]
 tell "$work/said"
+# and the second part that is quoted is what the first gives
+section docs/PLAN.md '## Plans with remarks' | awk -v to="$work/part" '
+    BEGIN { printf "" > (to ".1"); printf "" > (to ".2") }
+    /^```/ { inside = !inside; block += inside; next }
+    inside { print > (to "." block) }'
+plain "$work/part.1" >"$work/out"
+same 'docs/PLAN.md: what is quoted of the plan is not what is quoted of its source' "$work/part.2" "$work/out"
+hold 'docs/PLAN.md: no label is quoted of the source' grep -q '^04.*"' "$work/part.1"
 
-# ---- README's tables: behind a command ./sheet --words on an example, before the next heading; each row's first cell names lines of its sheet, in
-# order, or the beginning of some, as `2107..`, with or without their number
+# ---- README's tables: behind a command ./sheet --words on an example, before the next heading; each row's first cell names lines of its sheet and then
+# its word sheet, in order, or the beginning of some, as `2107..`, with or without their number
 
 for sheets in examples "$work"; do
     awk -v sheets="$sheets" '
         function bad(why) { print "fault", FILENAME ":" FNR ": " why; right = 0 }
-        function load(   file, line) {
-            file = sheets "/" example ".sheet"
-            lines = 0
-            while ((getline line < file) > 0) sheet[++lines] = line
+        function load_from(file,   line, many) {
+            while ((getline line < file) > 0) { sheet[++lines] = line; many++ }
             close(file)
-            if (!lines) bad("no sheet for " example)
+            if (!many) bad("nothing in " file)
+        }
+        function load() {
+            lines = 0
+            load_from(sheets "/" example ".sheet")
+            load_from(sheets "/" example ".words")
             at = 0
         }
         # a number in words or digits, and 0 where there is none

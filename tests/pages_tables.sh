@@ -9,10 +9,14 @@ definitions() {
 
 frames=$(definitions Frames.antt)
 if [ -f "$frames" ]; then
-    sed -n 's/.*row 0x\([0-9a-f][0-9a-f]\) \([A-Za-z]*\) .*[^0-9]\([0-9][0-9]*\) *$/\1 \3 \2/p' "$frames" |
-        sed 's/firstLine$/head/; s/freeNames$/free names/; s/offerLines$/offers/; s/treeLines$/tree/' >"$work/frames"
+    # A row has one number of bytes, or is between two, of which the second may be so many more than the longest label has.
+    label=$(sed -n 's/^longestLabel = \([0-9][0-9]*\)$/\1/p' "$(definitions Limits.antt)")
+    sed "s/(3 + longestLabel)/$((3 + label))/" "$frames" | sed -n '
+        s/.*row 0x\([0-9a-f][0-9a-f]\) \([A-Za-z]*\) [A-Z][A-Za-z]* \([0-9][0-9]*\) *$/\1 \3 \2/p
+        s/.*between 0x\([0-9a-f][0-9a-f]\) \([A-Za-z]*\) [A-Z][A-Za-z]* \([0-9][0-9]*\) \([0-9][0-9]*\) *$/\1 \3 to \4 \2/p' |
+        sed 's/firstLine$/head/; s/freeNames$/free names/; s/offerLines$/offers/; s/labelLines$/labels/; s/treeLines$/tree/' >"$work/frames"
     section docs/PLAN.md '## The frames' |
-        sed -n 's/^| `\([0-9a-f][0-9a-f]\)` | \([0-9][0-9]*\) | [^|]* | \([a-z ]*\) |.*/\1 \2 \3/p' >"$work/rows"
+        sed -n 's/^| `\([0-9a-f][0-9a-f]\)` | \([0-9][0-9]*\( to [0-9][0-9]*\)*\) | [^|]* | \([a-z ]*\) |.*/\1 \2 \4/p' >"$work/rows"
     hold 'there are no frames in Frames.antt' [ -s "$work/frames" ]
     same 'docs/PLAN.md: the table of frames is not that of Frames.antt (first byte, bytes in all, section)' "$work/frames" "$work/rows"
 else
@@ -37,11 +41,28 @@ if [ -f "$limits" ]; then
     while read -r name number; do
         hold "docs/PLAN.md: no row of the limits says that $name is $number" grep -q "^$name $number " "$work/limits"
     done <"$work/stated"
+    # Some are sums there, of what stands before: as many labels as there are things.
+    awk '
+        $2 == "=" && NF % 2 == 1 && $1 ~ /^[A-Za-z]+$/ {
+            sum = 0
+            for (i = 3; i <= NF; i += 2) {
+                if ($i !~ /^[0-9]+$/ && !($i in is) || i < NF && $(i + 1) != "+") next
+                sum += $i in is ? is[$i] : $i
+            }
+            is[$1] = sum
+            print $1 " = " sum
+        }' "$limits" >"$work/sums"
+    hold 'docs/PLAN.md: no row of the limits says how many labels there may be' \
+        grep -qx "mostLabels $(sed -n 's/^mostLabels = //p' "$work/sums") limits" "$work/limits"
 else
     fault "there is not one file Limits.antt: $limits"
+    : >"$work/sums"
 fi
 while read -r name number crate; do
-    find "crates/$crate" -name '*.antt' -exec grep -hx "$name = $number" {} + >"$work/out" 2>/dev/null
+    {
+        find "crates/$crate" -name '*.antt' -exec cat {} + 2>/dev/null
+        [ "$crate" != limits ] || cat "$work/sums"
+    } | grep -x "$name = $number" >"$work/out"
     hold "docs/PLAN.md: no definition of $crate says that $name is $number" [ -s "$work/out" ]
 done <"$work/limits"
 
@@ -69,19 +90,16 @@ section docs/PLAN.md '### The order' | awk -F '|' '
         }
         print substr(line, 2)
     }' >"$work/allowed"
-# The last front is the point behind an offer, which is that of the row with offers too.
-for front in '' '010101000001\n' '010101000000\n' '010101000000\n15\n' '010101000000\n030000000001\n'; do
-    awk -v front="$front" 'BEGIN {
-        for (b = 0; b < 256; b++) { text = front sprintf("%02x\n", b); printf "%08x%08x\n%s", length(text), 17409, text }
-    }' | ./run target/bin/batch | awk '
-        !inside { inside = 1; first = $0 }
-        /^(flow clear|flow breach|refused|reach complete)$/ && ++ends % 2 == 0 {
-            if (first !~ /^3f03/) printf "%s%02x", many++ ? " " : "", ends / 2 - 1
-            inside = 0
-        }
-        END { print "" }'
+# The last two fronts are the points behind an offer, which is that of the row with offers too, and behind an offer and a label, which is that of the row
+# behind a label.
+for front in '' '010101000001 / ' '010101000000 / ' '010101000000 / 04000061 / ' '010101000000 / 15 / ' '010101000000 / 030000000001 / ' \
+    '010101000000 / 030000000001 / 04000061 / '; do
+    awk -v front="$front" 'BEGIN { for (b = 0; b < 256; b++) print front sprintf("%02x", b) }' | firsts | awk '
+        !/^3f03/ { printf "%s%02x", many++ ? " " : "", NR - 1 }
+        END { print NR == 256 ? "" : " of " NR " answers" }'
 done >"$work/taken"
 grep '^03' "$work/allowed" >"$work/offering"
+grep '^04' "$work/allowed" >>"$work/offering"
 cat "$work/offering" >>"$work/allowed"
 same 'docs/PLAN.md: other first bytes may stand at a point' "$work/taken" "$work/allowed"
 
