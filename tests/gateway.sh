@@ -611,7 +611,7 @@ asks 3 "ask: the plan can't be read" "$work"
 asks 3 'ask: usage: ask [--words] [FILE]' examples/keeps.plan examples/breaks.plan
 asks 3 "ask: the plan can't be read" - <"$work"
 asks 0 clear --words examples/keeps.plan
-asks 1 'breach level 1 to level 0 on channel 1: channel 2' --words - <examples/breaks.plan
+asks 1 "$(cat examples/breaks.words)" --words - <examples/breaks.plan
 asks 1 'breach Besançon 🏛 to 卫生所 on Насос у школы: घर का नंब' --words <"$work/labelled.plan"
 asks 1 'flow breach: level 5 may send handle 29 on channel 17, where level 3 may receive it' <"$work/labelled.plan"
 asks 2 refused --words "$work/ill_formed.plan"

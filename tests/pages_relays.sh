@@ -114,3 +114,9 @@ for sheets in examples "$work"; do
         }' README.md >"$work/said"
     tell "$work/said"
 done
+
+# ---- the word sheets stand in README's tables
+
+for relay in keeps breaks; do
+    hold "README: the table of $relay has not its word sheet" grep -qF "| \`$(cat "examples/$relay.words")\` |" README.md
+done
