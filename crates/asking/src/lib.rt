@@ -1,4 +1,6 @@
 // Prints the sheet that a program is for, of the plan on standard input.
+#![tactic(auto)]
+
 use inputs::{Asked, FRONT};
 use libc::{STDIN_FILENO, STDOUT_FILENO};
 

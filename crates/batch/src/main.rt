@@ -1,6 +1,8 @@
 // Answers many plans: records on standard input, their sheets on standard output one after the other, each with its reach sheet and its word sheet
 // behind it. A record is a line of sixteen hexadecimal digits, eight for the length of the plan's text and eight for the allowance of rounds, and
 // then the text's bytes. A record that is none ends the run with a line that names it and says why.
+#![tactic(auto)]
+
 ghost use Rattle.std.specs.Prelude.{◌≡◌, length};
 ghost use Rattle.inputs.specs.Header.{longest_text};
 ghost use Rattle.sheet.specs.Write.{Counted};

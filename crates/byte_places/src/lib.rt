@@ -1,6 +1,8 @@
 // The place in its line of the byte that a refusal speaks of, from 1, and 0 where it speaks of none. It is said beside the refusal's number, from the line
 // as it stands: what decides the number, the crate `lines`, stands below and knows nothing of it. Proved: the place is the one that document 02's order 3
 // gives, for every line and every number.
+#![tactic(auto)]
+
 ghost use Rattle.std.specs.Prelude.{◌≡◌, ◌||◌, [], ◌∷◌, ltb, eqb};
 ghost use Rattle.limits.specs.Limits.{most_channels};
 ghost use Rattle.sets.specs.Set.{set_of_bytes};

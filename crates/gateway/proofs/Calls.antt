@@ -25,7 +25,7 @@ fits e w = record { long = e ∙ length_is w; unchanged = λ h. (w.longer h).1; 
 
 pub answers : {IsSheet : List ℕ → ℕ → List ℕ → Type 0} {text : List ℕ} {allowance : ℕ} {before after : List ℕ} {returned : Written} {size : ℕ}
     → size ≡ length_in returned → Writes IsSheet text allowance before returned after → Answers IsSheet text allowance before size after
-answers e w = record { sheet = w.sheet; of_text_lem = w.of_text_lem; fits = fits e w.wrote }
+answers e w = record { sheet = w.sheet; of_text = w.of_text; fits = fits e w.wrote }
 
 -- ---- outcomes
 
@@ -48,7 +48,7 @@ OneAnswer IsSheet =
 
 one_answer : (IsSheet : List ℕ → ℕ → List ℕ → Type 0) → OneSheet IsSheet → OneAnswer IsSheet
 one_answer IsSheet one text allowance before size other after later a b =
-    fits_once (one text allowance _ _ a.of_text_lem b.of_text_lem) a.fits b.fits
+    fits_once (one text allowance _ _ a.of_text b.of_text) a.fits b.fits
 
 pub once : OneAnswer SheetFor
 once = one_answer SheetFor sheet_once

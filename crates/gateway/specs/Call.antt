@@ -14,5 +14,5 @@ pub record Fits (sheet before : List ℕ) (size : ℕ) (after : List ℕ) : Type
 -- the same, by the text and the allowance of rounds, with the sheet that is meant: `IsSheet text allowance sheet`
 pub record Answers (IsSheet : List ℕ → ℕ → List ℕ → Type 0) (text : List ℕ) (allowance : ℕ) (before : List ℕ) (size : ℕ) (after : List ℕ) : Type 0 where
   pub sheet : List ℕ
-  pub of_text_lem : IsSheet text allowance sheet
+  pub of_text : IsSheet text allowance sheet
   pub fits : Fits sheet before size after

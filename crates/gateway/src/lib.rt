@@ -1,5 +1,7 @@
 // The sheet, the reach sheet and the word sheet for gateways that are written in another language: three functions, exported under C names, over
 // numbers and lent bytes.
+#![tactic(auto)]
+
 ghost use Rattle.sheet.specs.Sheet.{SheetFor};
 ghost use Rattle.reach_sheet.specs.ReachSheet.{ReachSheetFor};
 ghost use Rattle.word_sheet.specs.WordSheet.{WordSheetFor};

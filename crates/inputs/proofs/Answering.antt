@@ -47,7 +47,7 @@ sheet_of_front Words n input allowance sheet more w =
 of_front_lem : (asked : Asked) (n : ℕ) (input : List ℕ) (allowance : ℕ) (r : Sheet) → longest < n → IsAsked asked (take n input) allowance r
     → IsAsked asked input allowance r
 of_front_lem asked n input allowance r more w =
-    record { sheet = w.sheet; of_text_lem = sheet_of_front asked n input allowance w.sheet more w.of_text_lem; fills = w.fills }
+    record { sheet = w.sheet; of_text = sheet_of_front asked n input allowance w.sheet more w.of_text; fills = w.fills }
 
 -- and one only
 asked_once : (asked : Asked) → OneWhole (AskedFor asked)

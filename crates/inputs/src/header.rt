@@ -5,7 +5,7 @@ ghost use Rattle.inputs.specs.Header.{digit_value, number_from, header_for, head
 use crate::Fault;
 
 // What a header says: how long the text is and how many rounds are allowed, or why it is none.
-#[derive(Drop)]
+#[derive(Clone, Copy)]
 pub(crate) enum Header {
     Faulty(Fault),
     Record(usize, u16),

@@ -1,6 +1,8 @@
 // From what a program reads to the sheet that it prints: the whole input of `plan`, of `reaches` and of `words`, and a record of `batch`. The programs
 // are left with reading and writing. Proved: the sheet is the one asked for, of the whole input at the most rounds that any plan takes; a record's
 // three are those of its text at its allowance; and a record that is none is told why.
+#![tactic(auto)]
+
 ghost use Rattle.std.specs.Prelude.{◌≡◌, ◌<◌, ◌≤◌, length};
 ghost use Rattle.limits.specs.Limits.{longest};
 ghost use Rattle.sheet.specs.Write.{Counted};
@@ -16,7 +18,7 @@ mod header;
 pub const FRONT: usize = 16385;
 
 // Why a record is none.
-#[derive(Drop)]
+#[derive(Clone, Copy)]
 pub enum Fault {
     None,
     CutShort,
@@ -26,7 +28,7 @@ pub enum Fault {
 }
 
 // What a record is answered: its sheet, its reach sheet and its word sheet, or what is wrong with it beside blank ones.
-#[derive(Drop)]
+#[derive(Clone, Copy)]
 pub struct Recorded {
     pub fault: Fault,
     pub sheet: Sheet,
@@ -35,7 +37,7 @@ pub struct Recorded {
 }
 
 // Which sheet is asked for: the one with the verdict, the reach sheet, or the word sheet.
-#[derive(Drop)]
+#[derive(Clone, Copy)]
 pub enum Asked {
     Flow,
     Reach,

@@ -1,4 +1,6 @@
 // Judges a plan: whether anything goes down, from a level to a lower one, in its least solution. Above solving, by its promise alone.
+#![tactic(auto)]
+
 ghost use Rattle.sets.specs.Set.{Has, Members, Decides};
 ghost use Rattle.reading.specs.Plan.{plan_in};
 ghost use Rattle.solving.specs.Solutions.{members_in};
@@ -10,7 +12,7 @@ use sets::Set;
 use solving::{Solution, Solved};
 
 // A handle that goes down: sent on the channel at the higher level, and received on it at the lower.
-#[derive(Drop)]
+#[derive(Clone, Copy)]
 pub struct Breach {
     pub higher: u8,
     pub lower: u8,
@@ -19,7 +21,7 @@ pub struct Breach {
 }
 
 // Whether the least solution is discreet, with its first breach where it isn't. A refused text isn't judged.
-#[derive(Drop)]
+#[derive(Clone, Copy)]
 pub enum Verdict {
     Unjudged,
     Yes,
@@ -27,7 +29,7 @@ pub enum Verdict {
 }
 
 // What judging a text answers.
-#[derive(Drop)]
+#[derive(Clone, Copy)]
 pub struct Answer {
     pub solved: Solved,
     pub verdict: Verdict,

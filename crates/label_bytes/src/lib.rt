@@ -1,6 +1,8 @@
 // The bytes of labels in people's own script: whether they are well formed, and the front part that a sheet shows. The way of the data: a first
 // byte, a character, whole characters from the start, and the operations. Proved: `is_label` decides what RFC 3629's table of ranges and order 2
 // ask, and `shortened` is the longest whole-character beginning of at most 24 bytes, of any bytes whatever.
+#![tactic(auto)]
+
 ghost use Rattle.std.specs.Prelude.{◌≡◌, true, ◌↔◌, ◌-◌, ◌<◌, ◌≤◌, length, drop};
 ghost use Rattle.label_bytes.specs.Label.{IsLabel, IsShortened};
 ghost use Rattle.label_bytes.specs.inner.Working.{are_tails, Leads, Begun, WholeTo};
@@ -8,7 +10,7 @@ ghost use Rattle.label_bytes.specs.inner.Working.{are_tails, Leads, Begun, Whole
 use limits::LONGEST_SHORT;
 
 // What a first byte says of its character: how many bytes it has, none where no character of a label begins so, and the limits of the second.
-#[derive(Drop)]
+#[derive(Clone, Copy)]
 struct Lead {
     size: usize,
     lowest: u8,

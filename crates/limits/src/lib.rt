@@ -1,4 +1,5 @@
 // The limits of documents 01 and 02, each named once, and the sizes that follow from them.
+#![tactic(auto)]
 
 // The longest text, in bytes.
 pub const LONGEST: usize = 16384;

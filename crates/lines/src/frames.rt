@@ -25,14 +25,14 @@ pub(crate) const TREE_LINES: u8 = 5;
 const LONGEST_LABEL_FRAME: usize = 3 + LONGEST_LABEL;
 
 // The sections that the next line may stand in: from the one that reading stands in to the last that may come now.
-#[derive(Drop)]
+#[derive(Clone, Copy)]
 pub struct Span {
     pub from: u8,
     pub to: u8,
 }
 
 // The kinds of node, and none.
-#[derive(Drop)]
+#[derive(Clone, Copy)]
 pub enum Kind {
     NoNode,
     Nil,
@@ -48,7 +48,7 @@ pub enum Kind {
 }
 
 // A row of the table: in which section a frame stands, of which kind of node it is, and how many bytes it has, at least and at most.
-#[derive(Drop)]
+#[derive(Clone, Copy)]
 pub struct Frame {
     pub section: u8,
     pub kind: Kind,
@@ -57,7 +57,7 @@ pub struct Frame {
 }
 
 // What a line is at this point: a refusal's number, or a frame.
-#[derive(Drop)]
+#[derive(Clone, Copy)]
 pub(crate) enum Framed {
     Faulty(u8),
     Frame(Frame),

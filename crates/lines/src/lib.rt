@@ -2,6 +2,8 @@
 // The way of the data: frames (the table, over a line's bytes, which the crate `text` finds), scope (what names mean), rules and labels (what a frame's
 // bytes say), and the line here. Proved: each operation answers as documents 01 and 02 judge the line at that position. It knows nothing of the lines
 // before and behind: a caller says which section reading stands in by the operation, and what was read before by its arguments.
+#![tactic(auto)]
+
 ghost use Rattle.std.specs.Prelude.{◌≡◌};
 ghost use Rattle.text.specs.Positions.{rest_at};
 ghost use Rattle.lines.specs.Line.{first_head, next_name, next_offer, next_label, next_node};
@@ -22,14 +24,14 @@ mod rules;
 pub mod scope;
 
 // What a name stands for: a channel, or a receive's binder.
-#[derive(Drop)]
+#[derive(Clone, Copy)]
 pub enum Marker {
     Channel(u8),
     Binder(u8),
 }
 
 // A node of the tree, with the numbers of its frame and the markers of the names it uses.
-#[derive(Drop)]
+#[derive(Clone, Copy)]
 pub enum Node {
     Nil,
     Silent,
@@ -44,7 +46,7 @@ pub enum Node {
 }
 
 // The head's numbers: C channels, B binders, levels 0 to k (the top), F free names.
-#[derive(Drop)]
+#[derive(Clone, Copy)]
 pub struct Head {
     pub channels: u8,
     pub binders: u8,
@@ -53,21 +55,21 @@ pub struct Head {
 }
 
 // A free name and its channel.
-#[derive(Drop)]
+#[derive(Clone, Copy)]
 pub struct FreeName {
     pub name: u8,
     pub channel: u8,
 }
 
 // What the outside offers on a channel: a set of handles.
-#[derive(Drop)]
+#[derive(Clone, Copy)]
 pub struct Offer {
     pub channel: u8,
     pub set: Set,
 }
 
 // The label of a channel, a binder or a level: its kind and number, how many bytes it has, and these with zeros behind them.
-#[derive(Drop)]
+#[derive(Clone, Copy)]
 pub struct Label {
     pub kind: u8,
     pub number: u8,
@@ -76,21 +78,21 @@ pub struct Label {
 }
 
 // What the first line says: a refusal's number, or the head.
-#[derive(Drop)]
+#[derive(Clone, Copy)]
 pub enum Opening {
     Faulty(u8),
     Found(Head),
 }
 
 // What a free name's line says: a refusal's number, or the name.
-#[derive(Drop)]
+#[derive(Clone, Copy)]
 pub enum Entry {
     Faulty(u8),
     Found(FreeName),
 }
 
 // What a line says where an offer may stand: a refusal's number, the offer, or that the offers are over.
-#[derive(Drop)]
+#[derive(Clone, Copy)]
 pub enum Offering {
     Faulty(u8),
     Found(Offer),
@@ -98,7 +100,7 @@ pub enum Offering {
 }
 
 // What a line says where a label may stand: a refusal's number, that there is a label, or that the labels are over.
-#[derive(Drop)]
+#[derive(Clone, Copy)]
 pub enum Labelling {
     Faulty(u8),
     Found,
@@ -106,14 +108,14 @@ pub enum Labelling {
 }
 
 // The same, with the label beside it, which is blank where there is none.
-#[derive(Drop)]
+#[derive(Clone, Copy)]
 pub struct LabelLine {
     pub said: Labelling,
     pub label: Label,
 }
 
 // What a node's line says: a refusal's number, or the node.
-#[derive(Drop)]
+#[derive(Clone, Copy)]
 pub enum Step {
     Faulty(u8),
     Found(Node),

@@ -6,14 +6,14 @@ ghost use Rattle.lines.specs.Values.{meaning_in};
 use crate::{Marker, Node};
 
 // What a name means: nothing, or its marker.
-#[derive(Drop)]
+#[derive(Clone, Copy)]
 pub enum Meaning {
     Nothing,
     Is(Marker),
 }
 
 // A place for one name's meaning.
-#[derive(Drop)]
+#[derive(Clone, Copy)]
 pub struct Given {
     pub meaning: Meaning,
 }

@@ -1,4 +1,6 @@
 // Prints the answer sheet of the plan on standard input.
+#![tactic(auto)]
+
 use inputs::Asked;
 
 // Prints the sheet of the text on standard input.

@@ -1,5 +1,7 @@
 // Puts lines and characters into a buffer from a position on. Each function returns the position behind what it put. Steps of proved writers,
 // which know that there is room: no caller outside calls them.
+#![tactic(auto)]
+
 ghost use Rattle.std.specs.Prelude.{◌≡◌, ◌++◌, ◌<◌};
 ghost use Rattle.putting.specs.Characters.{digit as Sheet·digit, hex_line};
 ghost use Rattle.putting.specs.Put.{Room, Put};

@@ -1,6 +1,8 @@
 // Writes the reach sheet of a plan's text: a line for each level and each handle that the level may receive, with the smallest channel. It is put
 // together in an array that holds any, and copied to a lent buffer where it fits. Proved: the buffer holds the reach sheet and is otherwise as it
 // was, or all of it is.
+#![tactic(auto)]
+
 ghost use Rattle.std.specs.Prelude.{◌<◌};
 ghost use Rattle.limits.specs.Limits.{level_sets};
 ghost use Rattle.putting.specs.Characters.{hex_lines};

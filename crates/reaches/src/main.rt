@@ -1,4 +1,6 @@
 // Prints the reach sheet of the plan on standard input.
+#![tactic(auto)]
+
 use inputs::Asked;
 
 // Prints the reach sheet of the text on standard input.

@@ -100,4 +100,4 @@ pub computed : (text : List ℕ) (allowance : ℕ) → Reaches (plan_in text) al
 computed text allowance =
     let s = solved_of (plan_in text) allowance in
     let ins = s.solution.ins in
-    record { solved = s; of_text_lem = solved_computed text allowance; refusal = refl; reach = reach_of s.solution _ _ (handles_computed ins) (channels_computed ins) }
+    record { solved = s; of_text = solved_computed text allowance; refusal = refl; reach = reach_of s.solution _ _ (handles_computed ins) (channels_computed ins) }

@@ -61,7 +61,7 @@ pub once : (text : List ℕ) (allowance : ℕ) (r q : Received) → Reaches (pla
 once text allowance r q a b = λ i. record { refusal = refusals i; handles = handles_once _ a.reach there i; channels = channels_once _ a.reach there i }
   where
     same : a.solved ≡ b.solved
-    same = solved_once text allowance a.solved b.solved a.of_text_lem b.of_text_lem
+    same = solved_once text allowance a.solved b.solved a.of_text b.of_text
 
     refusals : r.refusal ≡ q.refusal
     refusals = a.refusal ∙ (ap (λ s. s.refusal) same ∙ sym b.refusal)
@@ -92,7 +92,7 @@ least_reach plan n s r few a x = record {
 pub reach_demand : (text : List ℕ) (allowance : ℕ) (r : Received) → Reaches (plan_in text) allowance r
     → (plan : Plan) → plan_in text ≡ read plan → (n : ℕ) → Count plan n → n ≤ allowance → ReachDemand plan r
 reach_demand text allowance r w plan e n counts enough =
-    let demanded = (demand_2 text allowance w.solved w.of_text_lem).plans plan e in
+    let demanded = (demand_2 text allowance w.solved w.of_text).plans plan e in
     let within = subst (λ m. m ≤ allowance) (count_unique plan n demanded.count counts demanded.counts) enough in
     let few = (subst Kept e (kept text)).head.channels in
     least_reach plan demanded.count w.solved r few (demanded.answered within) w.reach

@@ -33,6 +33,6 @@ pub record ReachOf (s : Sets) (handles : SetRow) (channels : List ℕ) : Type 0 
 -- what is answered, by what the text reads as: of the sets that solving answers, which are empty under a refusal
 pub record Reaches (o : Outcome Plan) (allowance : ℕ) (r : Received) : Type 0 where
   pub solved : Solved
-  pub of_text_lem : Solves o allowance solved
+  pub of_text : Solves o allowance solved
   pub refusal : r.refusal ≡ solved.refusal
   pub reach : ReachOf (members_in solved.solution) r.handles r.channels

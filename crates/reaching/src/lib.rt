@@ -1,5 +1,7 @@
 // Says which handles each level may receive in the least solution of a plan, and on which channel. Above solving, by its promise alone, and
 // beside judging: nothing here asks who ranks above whom.
+#![tactic(auto)]
+
 ghost use Rattle.std.specs.Prelude.{◌≡◌, ◌<◌, length};
 ghost use Rattle.limits.specs.Limits.{most_channels, levels, level_sets};
 ghost use Rattle.reading.specs.Plan.{plan_in};
@@ -15,7 +17,7 @@ pub const LEVELS: usize = limits::LEVELS as usize;
 
 // What each level may receive: a set of handles for each level, # the last, and for each level and handle the smallest channel on which the level
 // may receive it, 0 where it may not. A refused text has nothing received.
-#[derive(Drop)]
+#[derive(Clone, Copy)]
 pub struct Received {
     pub refusal: Refusal,
     pub handles: [Set; LEVELS],

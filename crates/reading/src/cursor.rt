@@ -7,7 +7,7 @@ use crate::Refusal;
 use text::line_end;
 
 // The position of a line's start, and the line's number.
-#[derive(Drop)]
+#[derive(Clone, Copy)]
 pub(crate) struct Cursor {
     pub(crate) at: usize,
     pub(crate) line: u16,

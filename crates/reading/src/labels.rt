@@ -13,7 +13,7 @@ use lines::labels::place_among;
 use lines::{Head, Label, Labelling, next_label};
 
 // The labels read so far in text order, with the smallest place that may have one now, or a refusal.
-#[derive(Drop)]
+#[derive(Clone, Copy)]
 pub(crate) struct Labels {
     pub(crate) good: bool,
     pub(crate) refusal: Refusal,

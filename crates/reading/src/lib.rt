@@ -1,6 +1,8 @@
 // Reads a plan text: every text gets a reading, or one numbered refusal by the order of documents 01 and 02.
 // The way of the data: cursor (where reading stands), names, offers, labels and tree (the sections, read line by line by the crate `lines`), and the
 // whole text here. Proved: `read` returns the document's reading of the text.
+#![tactic(auto)]
+
 ghost use Rattle.std.specs.Prelude.{◌≡◌};
 ghost use Rattle.lines.specs.Promise.{HeadWithin};
 ghost use Rattle.reading.specs.Plan.{Outcome, wrong_length, after_head, plan_in, reading_of};
@@ -24,13 +26,13 @@ mod offers;
 mod tree;
 
 // A place for one node.
-#[derive(Drop)]
+#[derive(Clone, Copy)]
 pub struct Slot {
     pub node: Node,
 }
 
 // Why a text is refused, and on which line; number 0 where it isn't.
-#[derive(Drop)]
+#[derive(Clone, Copy)]
 pub struct Refusal {
     pub number: u8,
     pub line: u16,
@@ -38,7 +40,7 @@ pub struct Refusal {
 
 // What a text says, with a set for each channel of the handles that are offered on it, and so many labels and nodes in text order. Unused places
 // hold zero, or nil for a node, and an empty set where nothing is offered; a refused text says nothing.
-#[derive(Drop)]
+#[derive(Clone, Copy)]
 pub struct Reading {
     pub refusal: Refusal,
     pub head: Head,

@@ -11,7 +11,7 @@ use lines::scope::{Scope, give};
 use lines::{Entry, FreeName, Head, Marker, next_name};
 
 // The free names read so far and the scope that they make, or a refusal.
-#[derive(Drop)]
+#[derive(Clone, Copy)]
 pub(crate) struct Names {
     pub(crate) good: bool,
     pub(crate) refusal: Refusal,

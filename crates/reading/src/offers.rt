@@ -12,7 +12,7 @@ use lines::{Head, Offering, next_offer};
 use sets::Set;
 
 // The offers read so far in a row of sets by channel, or a refusal.
-#[derive(Drop)]
+#[derive(Clone, Copy)]
 pub(crate) struct Offers {
     pub(crate) good: bool,
     pub(crate) refusal: Refusal,

@@ -12,7 +12,7 @@ use lines::scope::{Scope, enter};
 use lines::{Head, Node, Step, next_node};
 
 // The nodes read so far, or a refusal.
-#[derive(Drop)]
+#[derive(Clone, Copy)]
 pub(crate) struct State {
     pub(crate) good: bool,
     pub(crate) refusal: Refusal,

@@ -1,6 +1,8 @@
 // Sets of channels. Nobody above this crate knows what a set is made of: it is a number, and channel c is a member where the binary digit c of
 // the number is 1. Every contract but those on bytes speaks of members alone (specs/Set.antt), and each fixes the answer. What is done to whole rows of
 // sets is in rows.rt.
+#![tactic(auto)]
+
 pub mod rows;
 
 ghost use Rattle.std.specs.Prelude.{◌≡◌, ◌⊎◌, ◌<◌};

@@ -63,13 +63,13 @@ demand_1 text allowance before returned after w = record {
 }
   where
     answer : Answer
-    answer = w.of_text_lem.answer
+    answer = w.of_text.answer
 
     judged : Judges (plan_in text) allowance answer
-    judged = w.of_text_lem.judged
+    judged = w.of_text.judged
 
     solved : Demand2 (plan_in text) allowance answer.solved
     solved = demand_2 text allowance answer.solved judged.solved
 
     is : w.sheet ≡ sheet_of answer
-    is = w.of_text_lem.is
+    is = w.of_text.is

@@ -33,11 +33,11 @@ module _ {text : List ℕ} {allowance : ℕ} {a : Answer} (judged : Judges (plan
   its_sheet = record { answer = a; judged = judged; is = refl }
 
   pub short_writes : (before : List ℕ) (size : ℕ) → size ≡ length (sheet_of a) → length before < size → Writes SheetFor text allowance before (TooShort size) before
-  short_writes before size e l = record { sheet = sheet_of a; of_text_lem = its_sheet; wrote = short_wrote (sheet_of a) before size e l }
+  short_writes before size e l = record { sheet = sheet_of a; of_text = its_sheet; wrote = short_wrote (sheet_of a) before size e l }
 
   pub whole_writes : (before after : List ℕ) (size next : ℕ) → size ≡ length (sheet_of a) → size ≤ length before → Put before 0 (sheet_of a) after next
       → Writes SheetFor text allowance before (Whole size) after
-  whole_writes before after size next e l p = record { sheet = sheet_of a; of_text_lem = its_sheet; wrote = whole_wrote (sheet_of a) before size e after next l p }
+  whole_writes before after size next e l p = record { sheet = sheet_of a; of_text = its_sheet; wrote = whole_wrote (sheet_of a) before size e after next l p }
 
 -- ---- the sheet
 

@@ -132,10 +132,10 @@ OneWhole IsSheet =
 module _ (IsSheet : List ℕ → ℕ → List ℕ → Type 0) where
   pub one_written : OneSheet IsSheet → OneWritten IsSheet
   one_written one text allowance before w v after later a b =
-      wrote_once a.sheet b.sheet before w v after later (one text allowance _ _ a.of_text_lem b.of_text_lem) a.wrote b.wrote
+      wrote_once a.sheet b.sheet before w v after later (one text allowance _ _ a.of_text b.of_text) a.wrote b.wrote
 
   pub one_whole : OneSheet IsSheet → OneWhole IsSheet
-  one_whole one text allowance r q a b = fills_once a.sheet b.sheet r q (one text allowance _ _ a.of_text_lem b.of_text_lem) a.fills b.fills
+  one_whole one text allowance r q a b = fills_once a.sheet b.sheet r q (one text allowance _ _ a.of_text b.of_text) a.fills b.fills
 
 module _ {IsSheet : List ℕ → ℕ → List ℕ → Type 0} {text : List ℕ} {allowance : ℕ} where
   -- written to a blank array, a sheet is whole
@@ -143,8 +143,8 @@ module _ {IsSheet : List ℕ → ℕ → List ℕ → Type 0} {text : List ℕ} 
       → Writes IsSheet text allowance (replicate longest_sheet 0) returned r.bytes → r.size ≡ length_in returned → IsWhole IsSheet text allowance r
   whole_is r most w e = record {
     sheet = w.sheet;
-    of_text_lem = w.of_text_lem;
-    fills = fills_is w.sheet r (most w.sheet w.of_text_lem) w.wrote e;
+    of_text = w.of_text;
+    fills = fills_is w.sheet r (most w.sheet w.of_text) w.wrote e;
   }
 
   -- put into one, it is too
@@ -155,13 +155,13 @@ module _ {IsSheet : List ℕ → ℕ → List ℕ → Type 0} {text : List ℕ} 
       let size : r.size ≡ length sheet = omega (arith, p.behind) in
       let room : r.size ≤ length blank = rw length-replicate (omega (arith, size)) in
       let wrote = whole_wrote sheet blank r.size size r.bytes r.size room p in
-      record { sheet = sheet; of_text_lem = is; fills = fills_is sheet r most wrote refl }
+      record { sheet = sheet; of_text = is; fills = fills_is sheet r most wrote refl }
 
   -- copied to a buffer, a whole sheet is written there
   pub copied : {r : Sheet} {before after : List ℕ} {returned : Written} → IsWhole IsSheet text allowance r
       → Wrote (take r.size r.bytes) before returned after → Writes IsSheet text allowance before returned after
   copied {r} {before} {after} {returned} w wrote = record {
     sheet = w.sheet;
-    of_text_lem = w.of_text_lem;
+    of_text = w.of_text;
     wrote = subst (λ s. Wrote s before returned after) (front_is w.fills) wrote;
   }

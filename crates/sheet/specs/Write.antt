@@ -26,7 +26,7 @@ pub record Wrote (sheet before : List ℕ) (returned : Written) (after : List �
 -- the same, by the text and the allowance of rounds
 pub record Writes (IsSheet : List ℕ → ℕ → List ℕ → Type 0) (text : List ℕ) (allowance : ℕ) (before : List ℕ) (returned : Written) (after : List ℕ) : Type 0 where
   pub sheet : List ℕ
-  pub of_text_lem : IsSheet text allowance sheet
+  pub of_text : IsSheet text allowance sheet
   pub wrote : Wrote sheet before returned after
 
 -- the bytes that suffice for every sheet
@@ -41,7 +41,7 @@ pub record Fills (sheet : List ℕ) (r : Sheet) : Type 0 where
 -- the whole sheet of a text
 pub record IsWhole (IsSheet : List ℕ → ℕ → List ℕ → Type 0) (text : List ℕ) (allowance : ℕ) (r : Sheet) : Type 0 where
   pub sheet : List ℕ
-  pub of_text_lem : IsSheet text allowance sheet
+  pub of_text : IsSheet text allowance sheet
   pub fills : Fills sheet r
 
 -- its size counts bytes of its array. That follows, and is said for those who take the front part of the array

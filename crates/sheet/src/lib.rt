@@ -1,6 +1,8 @@
 // Writes the answer sheet of a plan's text to a lent buffer. The way of the data: a row's sets as lines, the whole answer, and here the
 // operation from text. The sheet's length is known first, so that a buffer that is too short is not touched;
 // then it is written once, from its start. Proved: the buffer holds the document's sheet and is otherwise as it was, or all of it is.
+#![tactic(auto)]
+
 ghost use Rattle.std.specs.Prelude.{◌≡◌, take};
 ghost use Rattle.sheet.specs.Sheet.{SheetFor};
 ghost use Rattle.sheet.specs.Write.{length_in, Wrote, Writes, IsWhole, Counted};
@@ -13,7 +15,7 @@ mod rows;
 pub use answers::put_refusal;
 
 // What writing a sheet returns.
-#[derive(Drop)]
+#[derive(Clone, Copy)]
 pub enum Written {
     // The sheet is in the buffer: its length.
     Whole(usize),
@@ -39,7 +41,7 @@ pub fn write(text: &[u8], allowance: u16, buffer: &mut [u8]) -> Written
 pub const LONGEST: usize = 8128;
 
 // A whole sheet: its bytes from the start, with zeros behind them, and how many they are.
-#[derive(Drop)]
+#[derive(Clone, Copy)]
 pub struct Sheet {
     pub bytes: [u8; LONGEST],
     pub size: usize,

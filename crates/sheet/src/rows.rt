@@ -13,7 +13,7 @@ use sets::Set;
 use solving::Solution;
 
 // Whose sets a row has: the binders', or those of each level and channel, received or sent.
-#[derive(Drop)]
+#[derive(Clone, Copy)]
 enum Part {
     Binders,
     Ins,

@@ -8,7 +8,7 @@ use crate::table::{Table, gather, heard, ins_at, outs_at, set_of};
 use lines::{Marker, Node};
 
 // How many branches a node has, at which level they stand, and whether they are asked to hold.
-#[derive(Drop)]
+#[derive(Clone, Copy)]
 pub(crate) struct Step {
     pub(crate) branches: u8,
     pub(crate) level: u8,

@@ -1,5 +1,7 @@
 // Solves a plan: the least acceptable solution and the number of rounds that finds it. The way of the data: the table of
 // sets, the clauses of single nodes, the walk of a round, the rounds.
+#![tactic(auto)]
+
 mod clauses;
 mod rounds;
 mod table;
@@ -18,7 +20,7 @@ use sets::Set;
 pub const CEILING: u16 = 17409;
 
 // A solution: a set of channels for each binder, and an in set and an out set for each level and channel, those of a level side by side.
-#[derive(Drop)]
+#[derive(Clone, Copy)]
 pub struct Solution {
     pub binders: [Set; BINDER_SETS],
     pub ins: [Set; LEVEL_SETS],
@@ -26,7 +28,7 @@ pub struct Solution {
 }
 
 // What solving a text answers. A refused text has no head, no count and no member in any set.
-#[derive(Drop)]
+#[derive(Clone, Copy)]
 pub struct Solved {
     pub refusal: Refusal,
     pub head: Head,

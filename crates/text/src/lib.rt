@@ -1,5 +1,7 @@
 // The lines of a plan text and their bytes, at positions of the caller's slice: where a line ends, whether it is faulty, and which bytes it has.
 // Proved: each operation answers as document 01's 'Plan text' has it of the line at that position, by an equation. It knows nothing of what bytes mean.
+#![tactic(auto)]
+
 ghost use Rattle.std.specs.Prelude.{◌≡◌, ◌+◌, ◌<◌, ◌≤◌, length, take, drop};
 ghost use Rattle.text.specs.Text.{is_digit, value_of, all_digits, bad_pair, odd_or_none, is_faulty, byte};
 ghost use Rattle.text.specs.Positions.{bytes_at, end_at, line_at};

@@ -1,6 +1,8 @@
 // Writes the word sheet of a plan's text: one line in people's own words, which a committee can be read. It is put together in an array that holds any,
 // and copied to a lent buffer where it fits. Proved: the buffer holds the word sheet and is otherwise as it was, or all of it is; 114 bytes suffice; and
 // the line is well-formed UTF-8.
+#![tactic(auto)]
+
 ghost use Rattle.std.specs.Prelude.{◌≡◌, ◌+◌, ◌≤◌, length, take};
 ghost use Rattle.putting.specs.Put.{Put};
 ghost use Rattle.lines.specs.Labels.{bytes_of_label};

@@ -1,4 +1,6 @@
 // Prints the word sheet of the plan on standard input.
+#![tactic(auto)]
+
 use inputs::Asked;
 
 // Prints the word sheet of the text on standard input.

@@ -1,0 +1,15 @@
+-- `number`: what the digits so far make, with those from i on, is the whole. Assumes nothing.
+use Prim.Native.Nat.{◌-◌, ◌*◌, ◌<◌, ◌^◌}
+use mathlib.Core.Path.{◌≡◌, refl, sym, ◌∙◌}
+use native.Mathlib.Omega.{arith}
+use borrow.Author.Rules.{rules}
+use lib.ListN.{length, drop}
+use Rattle.inputs.specs.Header.{number_from}
+use Rattle.inputs.proofs.Numbers.{number_on, number_none, number_end, below_more, below_most}
+use Rattle.inputs.proofs.header.number.Given as goal
+
+abbrev pub invariant-loop-i : goal.invariant-loop-i
+invariant-loop-i l = (number_from 0 l.digits ≡ number_from l.n (drop l.i l.digits)) × (l.n < 2 ^ (4 * l.i))
+
+abbrev pub decreases-loop-i : goal.decreases-loop-i
+decreases-loop-i l = length l.digits - l.i

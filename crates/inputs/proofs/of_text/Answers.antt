@@ -1,0 +1,33 @@
+-- `of_text`: a text that is cut short is no record, and one that is not has the sheets of as many bytes as the header says. Assumes nothing.
+use mathlib.Core.Path.{refl, sym}
+use native.Mathlib.Omega.{arith}
+use lib.Seq.{length-take-le}
+use borrow.Author.Rules.{rules}
+use Rattle.inputs.specs.Answers.{Answered}
+use Rattle.inputs.proofs.Answering.{none_counted}
+use Rattle.inputs.proofs.of_text.Goals as goal
+
+pub returns-then-text-size : goal.returns-then-text-size
+returns-then-text-size c =
+    let short = c.if-text-size.true in
+    record { answers_header = (λ h. c.none.ensures, λ h. absurd (omega arith)); counted = none_counted _ _ c.none.ensures }
+
+pub slice_bounds-whole-end : goal.slice_bounds-whole-end
+slice_bounds-whole-end c = sym (length-take-le _ _ c.before.if1.false)
+
+pub slice_bounds-whole-end-2 : goal.slice_bounds-whole-end-2
+slice_bounds-whole-end-2 c = sym (length-take-le _ _ c.before.before.before.if1.false)
+
+pub slice_bounds-whole-end-3 : goal.slice_bounds-whole-end-3
+slice_bounds-whole-end-3 c = sym (length-take-le _ _ c.before.before.before.before.before.if1.false)
+
+pub returns : goal.returns
+returns c =
+    let long = first.before.before.if1.false in
+    let three : Answered _ _ _ = record {
+      fault = refl;
+      sheet = first.whole.ensures.0;
+      reach = reach.whole2.ensures.0;
+      words = c.whole-3.ensures.whole;
+    } in
+    record { answers_header = (λ h. absurd (omega arith), λ h. three); counted = (first.whole.ensures.1, reach.whole2.ensures.1, c.whole-3.ensures.counted) }

@@ -1,0 +1,14 @@
+-- `put_line`: what is left to be put is the line of the bytes from i on. Assumes nothing.
+use Prim.Native.Nat.{◌+◌, ◌-◌, ◌<◌}
+use native.Mathlib.Omega.{arith}
+use lib.ListN.{length, drop, length-set}
+use Rattle.putting.specs.Characters.{hex_line}
+use Rattle.putting.proofs.Putting.{Left, left_all}
+use Rattle.putting.proofs.Characters.{line_step, line_room, line_end_lem, line_end_room}
+use Rattle.putting.proofs.put_line.Given as goal
+
+abbrev pub invariant-loop-i : goal.invariant-loop-i
+invariant-loop-i l = Left l.initial.buffer l.at (hex_line l.bytes) l.buffer l.next (hex_line (drop l.i l.bytes))
+
+abbrev pub decreases-loop-i : goal.decreases-loop-i
+decreases-loop-i l = length l.bytes - l.i

@@ -1,0 +1,10 @@
+-- `reach`: read off the in sets of what `solve` answers. Assumes nothing.
+use mathlib.Core.Path.{refl}
+use borrow.Author.Rules.{rules}
+use Rattle.reaching.proofs.Loops.{reach_of}
+use Rattle.reaching.proofs.reach.Goals as goal
+
+pub returns : goal.returns
+returns c =
+    let solved = c.solve-solved in
+    record { solved = solved.result; of_text = solved.ensures; refusal = refl; reach = reach_of _ _ _ c.handles_in-handles.ensures c.channels_in-channels.ensures }

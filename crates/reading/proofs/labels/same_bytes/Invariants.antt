@@ -1,0 +1,15 @@
+-- `same_bytes`: what is left to compare decides as the whole does. Assumes nothing.
+use Prim.Native.Nat.{◌-◌, ◌≤◌}
+use mathlib.Core.Path.{◌≡◌, refl, ◌∙◌}
+use native.Mathlib.Omega.{arith}
+use lib.ListN.{length, drop}
+use Rattle.reading.specs.Plan.{same_bytes}
+use Rattle.reading.proofs.Repeating.{lengths_differ, bytes_differ, bytes_on, bytes_end}
+use Rattle.reading.proofs.labels.same_bytes.Given as goal
+
+abbrev pub invariant-loop-i : goal.invariant-loop-i
+invariant-loop-i l =
+    (l.i ≤ length l.a) × (length l.a ≡ length l.b) × (same_bytes (drop l.i l.a) (drop l.i l.b) ≡ same_bytes l.a l.b)
+
+abbrev pub decreases-loop-i : goal.decreases-loop-i
+decreases-loop-i l = length l.a - l.i

@@ -1,0 +1,18 @@
+-- After some levels the union is of what was sent at those.
+-- Assumes nothing.
+use Prim.Native.Nat.{ℕ, ◌-◌, ◌≤◌}
+use mathlib.Core.Path.{subst, subst⁻¹}
+use native.Mathlib.Omega.{arith}
+use Rattle.limits.specs.Limits.{levels}
+use Rattle.sets.specs.Set.{Has, Members}
+use Rattle.sets.specs.Rows.{Together}
+use Rattle.solving.specs.inner.Table.{outs_at, Sent}
+use Rattle.solving.proofs.Tables.{sent_none, sent_more}
+use borrow.Author.Rules.{rules}
+use Rattle.solving.proofs.table.sent.Given as goal
+
+abbrev pub invariant-loop-level : goal.invariant-loop-level
+invariant-loop-level l = (l.level ≤ levels) × Members l.all (Sent l.table l.level (Has l.channels))
+
+abbrev pub decreases-loop-level : goal.decreases-loop-level
+decreases-loop-level l = levels - l.level

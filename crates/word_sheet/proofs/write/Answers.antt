@@ -1,0 +1,7 @@
+-- `write`: the whole sheet is copied. Assumes nothing.
+use borrow.Author.Rules.{rules}
+use Rattle.sheet.proofs.Writing.{copied}
+use Rattle.word_sheet.proofs.write.Goals as goal
+
+pub returns : goal.returns
+returns c = copied c.whole-made.ensures.whole c.copy.ensures
