@@ -30,7 +30,7 @@ at-received-requires c =
     omega (arith, slice-aggregate-at-2 c)
 
 pub least-handle-requires : goal.least-handle-requires
-least-handle-requires c = c.is_empty.ensures.no (c.if-not-is_empty.true
+least-handle-requires c = c.is_empty.ensures.no (c.if-not-is_empty.true)
 
 pub returns-then-not-is_empty : goal.returns-then-not-is_empty
 returns-then-not-is_empty c =
@@ -44,7 +44,7 @@ loop-place-preserved c =
     let at = c.loop-place in
     let a = c.args in
     let down = down_at (Lower a.top) a.solution.outs a.solution.ins at.place c.at-sent.ensures.value c.at-received.ensures.value c.going_down-handles.ensures in
-    let quiet = members_none c.going_down-handles.result _ down (c.is_empty.ensures.yes (c.if-not-is_empty.false) in
+    let quiet = members_none c.going_down-handles.result _ down (c.is_empty.ensures.yes (c.if-not-is_empty.false)) in
     (omega arith, below_more _ _ at.invariant.1 quiet)
 
 pub returns : goal.returns

@@ -31,9 +31,9 @@ returns-then-lead-second c =
 pub returns-then-not-all_tails : goal.returns-then-not-all_tails
 returns-then-not-all_tails c =
     begun_tails c.args.bytes.now c.args.at c.requires c.lead_of-lead.result c.lead_of-lead.ensures
-    (omega arith) (omega arith) (sym c.all_tails.ensures ∙ c.if-not-all_tails.true
+    (omega arith) (omega arith) (sym c.all_tails.ensures ∙ c.if-not-all_tails.true)
 
 pub returns : goal.returns
 returns c =
     begun_all c.args.bytes.now c.args.at c.requires c.lead_of-lead.result c.lead_of-lead.ensures
-    (omega arith) (omega arith) (omega arith) (omega arith) (sym c.all_tails.ensures ∙ c.if-not-all_tails.false
+    (omega arith) (omega arith) (omega arith) (omega arith) (sym c.all_tails.ensures ∙ c.if-not-all_tails.false)

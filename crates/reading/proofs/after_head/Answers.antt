@@ -21,7 +21,7 @@ returns-then-not-names c =
     let h = c.args.head in
     let cursor = c.args.cursor in
     let fresh = c.fresh_names.ensures in
-    let law = after_names s h cursor c.requires.0 _ _ fresh c.read_names-names.ensures (c.if-not-names.true in
+    let law = after_names s h cursor c.requires.0 _ _ fresh c.read_names-names.ensures (c.if-not-names.true) in
     c.refused.ensures ∙ ap reading_of law
 
 pub read_offers-offers-requires : goal.read_offers-offers-requires
@@ -40,7 +40,7 @@ returns-then-not-offers c =
     let fresh = c.fresh_names.ensures in
     let good = c.if-not-names.false in
     let law = after_offers c.args.text.now c.args.head c.args.cursor c.requires.0 _ _ fresh c.read_names-names.ensures good
-    _ _ c.fresh_offers.ensures c.read_offers-offers.ensures (c.if-not-offers.true in
+    _ _ c.fresh_offers.ensures c.read_offers-offers.ensures (c.if-not-offers.true) in
     c.refused-then-not-offers.ensures ∙ ap reading_of law
 
 pub read_labels-labels-requires : goal.read_labels-labels-requires
@@ -49,7 +49,7 @@ read_labels-labels-requires c =
     let fresh = c.fresh_names.ensures in
     let good = c.if-not-names.false in
     let stands = offers_stand s c.args.head c.args.cursor c.requires.0 _ _ fresh c.read_names-names.ensures good
-    _ _ c.fresh_offers.ensures c.read_offers-offers.ensures (c.if-not-offers.false in
+    _ _ c.fresh_offers.ensures c.read_offers-offers.ensures (c.if-not-offers.false) in
     let none = c.fresh_labels.ensures in (
       subst (StandsIn s) (sym none.there) stands,
       c.requires.0,
@@ -63,7 +63,7 @@ returns-then-not-labels c =
     let offered = c.if-not-offers.false in
     let law = after_labels c.args.text.now c.args.head c.args.cursor c.requires.0 _ _ fresh c.read_names-names.ensures good
     _ _ c.fresh_offers.ensures c.read_offers-offers.ensures offered
-    _ _ c.fresh_labels.ensures c.read_labels-labels.ensures (c.if-not-labels.true in
+    _ _ c.fresh_labels.ensures c.read_labels-labels.ensures (c.if-not-labels.true) in
     c.refused-then-not-labels.ensures ∙ ap reading_of law
 
 pub read_node-state-requires : goal.read_node-state-requires
@@ -74,7 +74,7 @@ read_node-state-requires c =
     let offered = c.if-not-offers.false in
     let stands = labels_stand s c.args.head c.args.cursor c.requires.0 _ _ fresh c.read_names-names.ensures good
     _ _ c.fresh_offers.ensures c.read_offers-offers.ensures offered
-    _ _ c.fresh_labels.ensures c.read_labels-labels.ensures (c.if-not-labels.false in
+    _ _ c.fresh_labels.ensures c.read_labels-labels.ensures (c.if-not-labels.false) in
     subst (StandsIn s) (sym c.fresh_state.ensures.there) stands
 
 pub returns-then-not-state : goal.returns-then-not-state
@@ -86,7 +86,7 @@ returns-then-not-state c =
     let law = after_tree c.args.text.now c.args.head c.args.cursor c.requires.0 _ _ fresh c.read_names-names.ensures good
     _ _ c.fresh_offers.ensures c.read_offers-offers.ensures offered
     _ _ c.fresh_labels.ensures c.read_labels-labels.ensures labelled
-    _ _ c.fresh_state.ensures c.read_node-state.ensures (c.if-not-state.true in
+    _ _ c.fresh_state.ensures c.read_node-state.ensures (c.if-not-state.true) in
     c.refused-then-not-state.ensures ∙ ap reading_of law
 
 pub returns-then-end-text : goal.returns-then-end-text

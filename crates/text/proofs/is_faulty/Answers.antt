@@ -16,7 +16,7 @@ returns-then-text-end c =
 pub returns-then-not-all_digits : goal.returns-then-not-all_digits
 returns-then-not-all_digits c =
     faulty_digits c.args.text.now c.args.at c.requires.0 (omega arith)
-    (sym c.all_digits.ensures ∙ c.if-not-all_digits.true
+    (sym c.all_digits.ensures ∙ c.if-not-all_digits.true)
 
 pub returns : goal.returns
 returns c =

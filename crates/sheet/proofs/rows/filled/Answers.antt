@@ -20,7 +20,7 @@ loop-i-preserved c =
     let here = c.loop-i-test.true in
     let decides = subst (λ s. Decides c.is_empty.result (Empty s)) c.at.ensures.value c.is_empty.ensures in
     let told = none_told c.is_empty.result (set_at row c.loop-i.i) decides in
-    elim c.if-not-is_empty.branch [ then-not-is_empty w ↦ omega (arith, filled_more row c.loop-i.i here (told ∙ w.if-not-is_empty.true) | else-not-is_empty w ↦ omega (arith, filled_empty row c.loop-i.i here (told ∙ w.if-not-is_empty.false) ]
+    elim c.if-not-is_empty.branch [ then-not-is_empty w ↦ omega (arith, filled_more row c.loop-i.i here (told ∙ w.if-not-is_empty.true)) | else-not-is_empty w ↦ omega (arith, filled_empty row c.loop-i.i here (told ∙ w.if-not-is_empty.false)) ]
 
 pub returns : goal.returns
 returns c = omega (arith, filled_end c.args.row.now c.loop-i.i c.loop-i-test.false)
