@@ -13,7 +13,7 @@ use lib.Dec.{leb, ltb, eqb}
 use lib.ListN.{length, get_or, drop, length-drop, drop_of_length-le}
 use lib.Seq.{drop-cons, get_or-drop, drop-drop}
 use borrow.Author.Tests.{eq-eqb, ne_eqb, lt-ltb, le-ltb, leb-true}
-use Rattle.text.specs.Text.{Line, line_feed, in_front, lines_of, rest, value_of, is_digit, all_digits, bad_pair, bad_pair_from, odd_or_none, is_faulty, bytes_of}
+use Rattle.text.specs.Text.{Line, line_feed, in_front, lines_of, rest, value_of, is_digit, all_digits, bad_pair_from, odd_or_none, is_faulty, bytes_of}
 use Rattle.text.specs.Positions.{bytes_at, end_at, first_of, line_at, rest_at}
 
 -- ---- the first line of a text

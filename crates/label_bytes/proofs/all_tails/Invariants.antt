@@ -1,12 +1,8 @@
 -- `all_tails`: what is left of the bytes at a position passed are tails exactly if all of them are; at the end nothing is left. Assumes nothing.
 use Prim.Native.Nat.{◌-◌}
-use mathlib.Core.Path.{◌≡◌, refl, sym, ◌∙◌}
-use native.Mathlib.Omega.{arith}
-use lib.ListN.{drop, get_or}
-use Rattle.label_bytes.specs.Characters.{tail}
+use mathlib.Core.Path.{◌≡◌}
+use lib.ListN.{drop}
 use Rattle.label_bytes.specs.inner.Working.{are_tails}
-use Rattle.label_bytes.proofs.Table.{below_range, above_range}
-use Rattle.label_bytes.proofs.Found.{tails_on, tails_off, tails_out}
 use Rattle.label_bytes.proofs.all_tails.Given as goal
 
 abbrev pub invariant-loop-at : goal.invariant-loop-at

@@ -2,8 +2,6 @@
 -- of the test that led to it. Assumes nothing.
 use mathlib.Core.Path.{sym, ◌∙◌}
 use native.Mathlib.Omega.{arith}
-use borrow.Author.Rules.{rules}
-use borrow.Author.Tests.{not-true, not-false}
 use Rattle.label_bytes.proofs.Table.{below_range, above_range}
 use Rattle.label_bytes.proofs.Found.{begun_short, begun_small, begun_second, begun_tails, begun_all}
 use Rattle.label_bytes.proofs.character_at.Goals as goal

@@ -1,5 +1,4 @@
 -- `is_label`: the longest whole-character beginning is all of the bytes exactly if they are a label. Assumes nothing.
-use borrow.Author.Rules.{rules}
 use Rattle.label_bytes.proofs.Passed.{whole_label}
 use Rattle.label_bytes.proofs.is_label.Goals as goal
 

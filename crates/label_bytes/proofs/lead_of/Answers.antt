@@ -1,14 +1,13 @@
 -- `lead_of`: each arm is a row of the table of a label's characters, the single bytes first, as the code tests them; the last arm is what lies below,
 -- between and above the rows. Assumes nothing.
 use mathlib.Core.Path.{refl}
-use mathlib.Core.Logic.{⊎_elim}
 use native.Mathlib.Omega.{arith}
-use borrow.Author.Rules.{rules}
 use Rattle.label_bytes.specs.Characters.{table}
 use Rattle.label_bytes.proofs.Table.{outside}
 use Rattle.label_bytes.proofs.Letters.{long_rows, letters}
 use Rattle.label_bytes.proofs.Leads.{leads_row, no_letter, leads_none}
 use Rattle.label_bytes.proofs.lead_of.Goals as goal
+use Rattle.label_bytes.proofs.lead_of.Goals.{in_default-via-then-first-lt32 as low, in_default-via-else-first-lt32+else-first-lt127+then-first-lt194 as between, in_default-via-else-first-lt32+else-first-lt127+else-first-lt194+else-first-lt224+else-first-lt237+else-first-lt240+else-first-lt244 as high}
 
 pub returns-in-224 : goal.returns-in-224
 unfolding table long_rows letters outside
@@ -51,9 +50,8 @@ unfolding table long_rows letters outside
 returns-in_default c =
     let first = c.args.first in
     leads_none c.row-in_default.ensures refl
-    (⊎_elim
-    (λ low. no_letter 0x00 0x1f first refl (omega arith) (omega arith))
-    (⊎_elim
-    (λ between. no_letter 0x7f 0xc1 first refl (omega arith) (omega arith))
-    (λ high. no_letter 0xf5 0xff first refl (omega arith) (omega arith)))
-    c.in_default.branch)
+    (elim c.in_default.branch [
+      | low w ↦ no_letter 0x00 0x1f first refl (omega arith) (omega arith)
+      | between w ↦ no_letter 0x7f 0xc1 first refl (omega arith) (omega arith)
+      | high w ↦ no_letter 0xf5 0xff first refl (omega arith) (omega arith)
+    ])

@@ -1,9 +1,7 @@
 -- `whole`: up to the end so far the characters are passed; where no further one fits they are the longest. The measure is what is left of the bytes.
 -- Assumes nothing.
-use Prim.Native.Nat.{◌-◌}
 use native.Mathlib.Omega.{arith}
-use lib.ListN.{length}
-use Rattle.label_bytes.proofs.Passed.{Passed, passed_none, passed_out, passed_no, passed_over, passed_more}
+use Rattle.label_bytes.proofs.Passed.{passed_none, passed_out, passed_no, passed_over, passed_more}
 use Rattle.label_bytes.proofs.whole.Goals as goal
 
 pub loop-end-init : goal.loop-end-init

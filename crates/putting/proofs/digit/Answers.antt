@@ -1,5 +1,4 @@
 -- `digit`: each return is the definition's answer under its test. Assumes nothing.
-use borrow.Author.Rules.{rules}
 use borrow.Author.Tests.{lt-ltb, le-ltb}
 use Rattle.putting.specs.Characters.{digit}
 use Rattle.putting.proofs.digit.Goals as goal

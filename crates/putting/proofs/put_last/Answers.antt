@@ -1,5 +1,4 @@
 -- `put_last`: a line, and behind it the phrase. Assumes nothing.
-use borrow.Author.Rules.{rules}
 use Rattle.putting.proofs.Putting.{room_first, room_then, put_then}
 use Rattle.putting.proofs.put_last.Goals as goal
 

@@ -1,18 +1,9 @@
 -- `put_line`: what is left to be put is the line of the bytes from i on. Assumes nothing.
-use Prim.Native.Nat.{◌+◌, ◌-◌, ◌<◌}
 use native.Mathlib.Omega.{arith}
-use lib.ListN.{length, drop, length-set}
-use Rattle.putting.specs.Characters.{hex_line}
-use Rattle.putting.proofs.Putting.{Left, left_all}
+use lib.ListN.{length-set}
+use Rattle.putting.proofs.Putting.{left_all}
 use Rattle.putting.proofs.Characters.{line_step, line_room, line_end_lem, line_end_room}
 use Rattle.putting.proofs.put_line.Goals as goal
-
--- there is room for a byte's two digits in a turn, and for the line feed at the end
-room-in-loop : (c : tie.In-loop invariant-loop decreases-loop) → c.before.loop.next + 2 < length c.before.loop.buffer
-room-in-loop c = line_room c.before.loop.i _ c.before.loop.invariant c.loop-test.true c.before.before.before.before.requires
-
-room-at-end : (c : tie.After-loop invariant-loop decreases-loop) → c.before.loop.next < length c.before.loop.buffer
-room-at-end c = line_end_room c.before.loop.i _ c.before.loop.invariant c.before.before.before.before.requires
 
 pub loop-i-init : goal.loop-i-init
 loop-i-init c = left_all _ _ _
@@ -21,16 +12,16 @@ pub digit-requires : goal.digit-requires
 digit-requires c = omega (arith, c.shared_slice_known-in-loop-i-1.given c.loop-i.i)
 
 pub bounds-buffer-next : goal.bounds-buffer-next
-bounds-buffer-next c = omega (arith, room-in-loop c)
+bounds-buffer-next c = omega (arith, line_room c.loop-i.i _ c.loop-i.invariant c.loop-i-test.true c.requires)
 
 pub overflow_add-buffer : goal.overflow_add-buffer
-overflow_add-buffer c = omega (arith, room-in-loop c, c.loop-i.invariant.size)
+overflow_add-buffer c = omega (arith, line_room c.loop-i.i _ c.loop-i.invariant c.loop-i-test.true c.requires, c.loop-i.invariant.size)
 
 pub bounds-buffer-next-in-loop-i : goal.bounds-buffer-next-in-loop-i
-bounds-buffer-next-in-loop-i c = simp length-set (omega (arith, room-in-loop c))
+bounds-buffer-next-in-loop-i c = simp length-set (omega (arith, line_room c.loop-i.i _ c.loop-i.invariant c.loop-i-test.true c.requires))
 
 pub overflow_add-next : goal.overflow_add-next
-overflow_add-next c = omega (arith, room-in-loop c, c.loop-i.invariant.size)
+overflow_add-next c = omega (arith, line_room c.loop-i.i _ c.loop-i.invariant c.loop-i-test.true c.requires, c.loop-i.invariant.size)
 
 pub loop-i-preserved : goal.loop-i-preserved
 loop-i-preserved c =
@@ -38,10 +29,10 @@ loop-i-preserved c =
     rw (c.digit.ensures, c.digit-in-loop-i.ensures) law
 
 pub bounds-buffer-next-2 : goal.bounds-buffer-next-2
-bounds-buffer-next-2 c = room-at-end c
+bounds-buffer-next-2 c = line_end_room c.loop-i.i _ c.loop-i.invariant c.requires
 
 pub overflow_add-result : goal.overflow_add-result
-overflow_add-result c = omega (arith, room-at-end c, c.loop-i.invariant.size)
+overflow_add-result c = omega (arith, line_end_room c.loop-i.i _ c.loop-i.invariant c.requires, c.loop-i.invariant.size)
 
 pub shape_of-buffer : goal.shape_of-buffer
 shape_of-buffer c = simp length-set c.loop-i.invariant.size

@@ -1,10 +1,8 @@
 -- `put_line`: what is left to be put is the line of the bytes from i on. Assumes nothing.
-use Prim.Native.Nat.{◌+◌, ◌-◌, ◌<◌}
-use native.Mathlib.Omega.{arith}
-use lib.ListN.{length, drop, length-set}
+use Prim.Native.Nat.{◌-◌}
+use lib.ListN.{length, drop}
 use Rattle.putting.specs.Characters.{hex_line}
-use Rattle.putting.proofs.Putting.{Left, left_all}
-use Rattle.putting.proofs.Characters.{line_step, line_room, line_end_lem, line_end_room}
+use Rattle.putting.proofs.Putting.{Left}
 use Rattle.putting.proofs.put_line.Given as goal
 
 abbrev pub invariant-loop-i : goal.invariant-loop-i

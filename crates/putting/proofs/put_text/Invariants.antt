@@ -1,9 +1,7 @@
 -- `put_text`: what is left to be put are the characters from i on. Assumes nothing.
 use Prim.Native.Nat.{◌-◌}
-use native.Mathlib.Omega.{arith}
 use lib.ListN.{length, drop}
-use Rattle.putting.proofs.Putting.{Left, left_all}
-use Rattle.putting.proofs.Characters.{text_step, text_room, text_end}
+use Rattle.putting.proofs.Putting.{Left}
 use Rattle.putting.proofs.put_text.Given as goal
 
 abbrev pub invariant-loop-i : goal.invariant-loop-i

@@ -1,7 +1,6 @@
 -- A set of no more channels than there are is narrow at any greater width; at a smaller one it is where nothing is left of it behind.
 -- Assumes nothing.
 use native.Mathlib.Omega.{arith}
-use borrow.Author.Rules.{rules}
 use Rattle.limits.specs.Limits.{most_channels}
 use Rattle.sets.proofs.Decide.{says_yes}
 use Rattle.sets.proofs.Width.{narrow_past, narrow_shifted}

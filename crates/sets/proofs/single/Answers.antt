@@ -2,7 +2,6 @@
 -- Assumes nothing.
 use mathlib.Core.Path.{◌≡◌, subst⁻¹}
 use Prim.Native.Nat.{ℕ}
-use borrow.Author.Rules.{rules}
 use Rattle.sets.specs.Set.{Members}
 use Rattle.sets.proofs.Members.{has_single}
 use Rattle.limits.specs.Limits.{most_channels}

@@ -2,7 +2,6 @@
 -- Assumes nothing.
 use mathlib.Core.Path.{subst⁻¹}
 use Prim.Native.Nat.{ℕ, ◌-◌, ◌≤◌}
-use borrow.Author.Rules.{rules}
 use Rattle.sets.specs.Set.{Without}
 use Rattle.sets.proofs.Removal.{has_at_least, without_minus}
 use Rattle.limits.specs.Limits.{most_channels}

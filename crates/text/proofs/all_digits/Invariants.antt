@@ -1,14 +1,10 @@
 -- `all_digits`: what is left of the line at a position passed has only digits exactly if the line has; at the end nothing is left.
 -- Assumes nothing.
-use Prim.Native.Nat.{◌≤◌, ◌<◌, ◌-◌}
-use mathlib.Core.Path.{◌≡◌, refl, sym, ◌∙◌}
-use native.Mathlib.Omega.{arith}
+use Prim.Native.Nat.{◌≤◌, ◌-◌}
+use mathlib.Core.Path.{◌≡◌}
 use lib.ListN.{length}
-use borrow.Author.Rules.{rules}
-use borrow.Author.Tests.{not-true, not-false}
 use Rattle.text.specs.Text.{all_digits}
 use Rattle.text.specs.Positions.{end_at, line_at}
-use Rattle.text.proofs.Lines.{end_fits, end_on, not_feed, digits_on, digits_off, digits_out}
 use Rattle.text.proofs.all_digits.Given as goal
 
 abbrev pub invariant-loop-i : goal.invariant-loop-i

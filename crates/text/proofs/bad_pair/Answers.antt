@@ -1,6 +1,5 @@
 -- `bad_pair`: no line stands behind the text's end, and where one stands its end is found first. Assumes nothing.
 use native.Mathlib.Omega.{arith}
-use borrow.Author.Rules.{rules}
 use Rattle.text.proofs.Lines.{end_out, bad_out}
 use Rattle.text.proofs.bad_pair.Goals as goal
 

@@ -1,14 +1,10 @@
 -- `bad_pair_to`: the first character other than a digit, of what is left of the line at a position passed, is that of the line; at the end nothing is
 -- left. Assumes nothing.
-use Prim.Native.Nat.{◌≤◌, ◌<◌, ◌+◌, ◌-◌}
-use mathlib.Core.Path.{◌≡◌, sym, ap, ◌∙◌}
-use native.Mathlib.Omega.{arith}
+use Prim.Native.Nat.{◌≤◌, ◌-◌}
+use mathlib.Core.Path.{◌≡◌}
 use lib.ListN.{length}
-use borrow.Author.Rules.{rules}
-use borrow.Author.Tests.{not-true, not-false}
 use Rattle.text.specs.Text.{bad_pair, bad_pair_from}
 use Rattle.text.specs.Positions.{end_at, line_at}
-use Rattle.text.proofs.Lines.{end_fits, end_on, not_feed, bad_here, bad_on, bad_out}
 use Rattle.text.proofs.bad_pair_to.Given as goal
 
 abbrev pub invariant-loop-i : goal.invariant-loop-i

@@ -1,6 +1,5 @@
 -- `byte_in`: the byte's two digits stand in the text, at twice its number from the line's start. Assumes nothing.
 use native.Mathlib.Omega.{arith}
-use borrow.Author.Rules.{rules}
 use Rattle.text.proofs.Lines.{byte_fits, byte_at}
 use Rattle.text.proofs.byte_in.Goals as goal
 

@@ -1,7 +1,6 @@
 -- `byte_or_zero`: past a line's bytes the definition's byte is 0. Assumes nothing.
 use mathlib.Core.Path.{sym}
 use native.Mathlib.Omega.{arith}
-use borrow.Author.Rules.{rules}
 use lib.ListN.{get_or-eq_default}
 use Rattle.text.specs.Positions.{bytes_at}
 use Rattle.text.proofs.byte_or_zero.Goals as goal

@@ -1,8 +1,8 @@
 -- `bytes_in`: after i turns the first i places hold the first i of the line's bytes from `from` on. Assumes nothing.
-use Prim.Native.Nat.{◌+◌, ◌-◌, ◌≤◌}
+use Prim.Native.Nat.{◌+◌}
 use mathlib.Core.Path.{◌≡◌, refl, sym, ◌∙◌}
 use native.Mathlib.Omega.{arith}
-use lib.ListN.{length, take, drop, length-set}
+use lib.ListN.{length, length-set}
 use lib.Seq.{take_all}
 use Rattle.text.specs.Positions.{bytes_at}
 use Rattle.text.proofs.Lists.{laid_more}

@@ -1,12 +1,8 @@
 -- `bytes_in`: after i turns the first i places hold the first i of the line's bytes from `from` on. Assumes nothing.
-use Prim.Native.Nat.{◌+◌, ◌-◌, ◌≤◌}
-use mathlib.Core.Path.{◌≡◌, refl, sym, ◌∙◌}
-use native.Mathlib.Omega.{arith}
-use lib.ListN.{length, take, drop, length-set}
-use lib.Seq.{take_all}
+use Prim.Native.Nat.{◌-◌, ◌≤◌}
+use mathlib.Core.Path.{◌≡◌}
+use lib.ListN.{length, take, drop}
 use Rattle.text.specs.Positions.{bytes_at}
-use Rattle.text.proofs.Lists.{laid_more}
-use Rattle.text.proofs.Lines.{byte_fits}
 use Rattle.text.proofs.bytes_in.Given as goal
 
 abbrev pub invariant-loop-i : goal.invariant-loop-i

@@ -3,8 +3,6 @@ use Prim.Native.Nat.{◌-◌}
 use mathlib.Core.Path.{◌≡◌, sym, ◌∙◌}
 use native.Mathlib.Omega.{arith}
 use lib.ListN.{length}
-use borrow.Author.Rules.{rules}
-use borrow.Author.Tests.{not-true, not-false}
 use Rattle.text.specs.Positions.{line_at}
 use Rattle.text.proofs.Lines.{faulty_unended, faulty_digits, faulty_size}
 use Rattle.text.proofs.is_faulty.Goals as goal

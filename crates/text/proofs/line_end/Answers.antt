@@ -1,9 +1,6 @@
 -- `line_end`: the line at every position passed ends where the line at `at` does. Assumes nothing.
-use Prim.Native.Nat.{◌-◌}
-use mathlib.Core.Path.{◌≡◌, refl, sym, ◌∙◌}
+use mathlib.Core.Path.{sym, ◌∙◌}
 use native.Mathlib.Omega.{arith}
-use lib.ListN.{length}
-use Rattle.text.specs.Positions.{end_at}
 use Rattle.text.proofs.Lines.{end_feed, end_on, end_out}
 use Rattle.text.proofs.line_end.Goals as goal
 

@@ -1,6 +1,5 @@
 -- `size_in`: a line has half as many bytes as characters. Assumes nothing.
 use native.Mathlib.Omega.{arith}
-use borrow.Author.Rules.{rules}
 use Rattle.text.specs.Positions.{line_at}
 use Rattle.text.proofs.Lines.{bytes_length}
 use Rattle.text.proofs.size_in.Goals as goal

@@ -5,7 +5,6 @@ use Prim.Native.Nat.{◌<◌, ◌^◌}
 use native.Mathlib.Omega.{arith}
 use Rattle.limits.specs.Limits.{most_channels}
 use Rattle.sets.specs.Rows.{set_at}
-use borrow.Author.Rules.{rules}
 use Rattle.sets.proofs.Width.{below}
 use Rattle.sets.proofs.rows.at.Goals as goal
 

@@ -1,9 +1,8 @@
 -- After i turns the places below i hold what stands in the other row from the start on.
 -- Assumes nothing.
-use Prim.Native.Nat.{ℕ, ◌+◌, ◌-◌, ◌≤◌, ◌<◌}
-use mathlib.Core.Path.{◌≡◌, ◌∙◌}
+use mathlib.Core.Path.{◌∙◌}
 use native.Mathlib.Omega.{arith}
-use lib.ListN.{length, get_or, length-set}
+use lib.ListN.{length-set}
 use Rattle.sets.proofs.Joins.{copied_more}
 use Rattle.sets.proofs.rows.copy.Goals as goal
 

@@ -1,10 +1,8 @@
 -- After i turns the places below i hold what stands in the other row from the start on.
 -- Assumes nothing.
 use Prim.Native.Nat.{ℕ, ◌+◌, ◌-◌, ◌≤◌, ◌<◌}
-use mathlib.Core.Path.{◌≡◌, ◌∙◌}
-use native.Mathlib.Omega.{arith}
-use lib.ListN.{length, get_or, length-set}
-use Rattle.sets.proofs.Joins.{copied_more}
+use mathlib.Core.Path.{◌≡◌}
+use lib.ListN.{length, get_or}
 use Rattle.sets.proofs.rows.copy.Given as goal
 
 abbrev pub invariant-loop-i : goal.invariant-loop-i

@@ -1,7 +1,6 @@
 -- The one place that is stored to holds the union.
 -- Assumes nothing.
 use lib.ListN.{length-set}
-use borrow.Author.Rules.{rules}
 use Rattle.sets.proofs.Joins.{joins_one}
 use Rattle.sets.proofs.rows.join_at.Goals as goal
 

@@ -1,11 +1,11 @@
 -- While channels are left, the row has what stands in the other row joined in at the channels taken; each turn takes the least of those left.
 -- Assumes nothing.
-use mathlib.Core.Path.{◌≡◌, ◌∙◌}
+use mathlib.Core.Path.{◌∙◌}
 use Prim.Native.Nat.{◌+◌}
 use native.Mathlib.Omega.{arith}
-use lib.ListN.{length, get_or, length-set}
-use Rattle.sets.specs.Set.{Has, Subset}
-use Rattle.sets.specs.Rows.{Joins, Over, From}
+use lib.ListN.{get_or, length-set}
+use Rattle.sets.specs.Set.{Has}
+use Rattle.sets.specs.Rows.{From}
 use Rattle.sets.proofs.Members.{members_own}
 use Rattle.sets.proofs.Minimum.{not_empty}
 use Rattle.sets.proofs.Taking.{Taken, taken_none, taken_all, taken_more, left_subset, over_none, over_more, over_same}

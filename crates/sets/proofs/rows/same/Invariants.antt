@@ -1,13 +1,8 @@
 -- Rows of one length whose sets below i are found the same, up to the end; a difference of length or at a place tells them apart.
 -- Assumes nothing.
-use mathlib.Core.Path.{◌≡◌, ap}
-use mathlib.Core.List.{List}
+use mathlib.Core.Path.{◌≡◌}
 use Prim.Native.Nat.{ℕ, ◌-◌, ◌≤◌, ◌<◌}
-use native.Mathlib.Omega.{arith}
-use borrow.Author.Count.{below_none, below_more}
 use lib.ListN.{length, get_or}
-use lib.Seq.{ext_get_or}
-use Rattle.sets.proofs.Decide.{says_yes, says_no}
 use Rattle.sets.proofs.rows.same.Given as goal
 
 abbrev pub invariant-loop-i : goal.invariant-loop-i

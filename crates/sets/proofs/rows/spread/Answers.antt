@@ -1,10 +1,9 @@
 -- While channels are left, the row has the set joined in at the channels taken; each turn takes the least of those left.
 -- Assumes nothing.
-use mathlib.Core.Path.{◌≡◌, ◌∙◌}
+use mathlib.Core.Path.{◌∙◌}
 use native.Mathlib.Omega.{arith}
-use lib.ListN.{length, length-set}
-use Rattle.sets.specs.Set.{Has, Subset}
-use Rattle.sets.specs.Rows.{Joins, Over}
+use lib.ListN.{length-set}
+use Rattle.sets.specs.Set.{Has}
 use Rattle.sets.proofs.Members.{members_own}
 use Rattle.sets.proofs.Minimum.{not_empty}
 use Rattle.sets.proofs.Taking.{Taken, taken_none, taken_all, taken_more, left_subset, over_none, over_more, over_same}

@@ -1,13 +1,10 @@
 -- While channels are left, the row has the set joined in at the channels taken; each turn takes the least of those left.
 -- Assumes nothing.
-use mathlib.Core.Path.{◌≡◌, ◌∙◌}
-use native.Mathlib.Omega.{arith}
-use lib.ListN.{length, length-set}
+use mathlib.Core.Path.{◌≡◌}
+use lib.ListN.{length}
 use Rattle.sets.specs.Set.{Has, Subset}
 use Rattle.sets.specs.Rows.{Joins, Over}
-use Rattle.sets.proofs.Members.{members_own}
-use Rattle.sets.proofs.Minimum.{not_empty}
-use Rattle.sets.proofs.Taking.{Taken, taken_none, taken_all, taken_more, left_subset, over_none, over_more, over_same}
+use Rattle.sets.proofs.Taking.{Taken}
 use Rattle.sets.proofs.rows.spread.Given as goal
 
 abbrev pub invariant-loop-left : goal.invariant-loop-left

@@ -1,10 +1,8 @@
 -- While channels are left, the union is of what stands at the channels taken; each turn takes the least of those left.
 -- Assumes nothing.
-use native.Mathlib.Omega.{arith}
-use Rattle.sets.specs.Set.{Has, Members, Subset}
+use Rattle.sets.specs.Set.{Members, Subset}
 use Rattle.sets.specs.Rows.{Together}
-use Rattle.sets.proofs.Minimum.{not_empty}
-use Rattle.sets.proofs.Taking.{Taken, taken_none, taken_all, taken_more, left_subset, together_none, together_more, together_same}
+use Rattle.sets.proofs.Taking.{Taken}
 use Rattle.sets.proofs.rows.together.Given as goal
 
 abbrev pub invariant-loop-left : goal.invariant-loop-left
