@@ -14,7 +14,7 @@ use Rattle.lines.specs.declared.Offer.{Offer}
 use Rattle.lines.specs.declared.Label.{Label}
 use Rattle.lines.specs.declared.Marker.{Marker}
 use Rattle.lines.specs.declared.Node.{Node}
-use Rattle.lines.specs.declared.Node.TheVariants.{Nil, Silent, Send, Receive, Sum, Parallel, Restriction, Match, Replication, Bracket}
+use Rattle.lines.specs.declared.Node.TheVariants.{Send, Receive, Match}
 use Rattle.lines.specs.declared.scope.Meaning.{Meaning}
 use Rattle.lines.specs.declared.scope.Meaning.TheVariants.{Nothing, Is}
 use Rattle.lines.specs.declared.frames.Frame.{Frame}

@@ -1,5 +1,4 @@
 -- `first_head`: the frame on the line, then the rule of the head over its bytes. Assumes nothing.
-use borrow.Author.Rules.{rules}
 use Rattle.lines.specs.Frames.{first_line, only}
 use Rattle.lines.specs.Line.{first_head}
 use Rattle.lines.proofs.Table.{head_long, in_only, framed_faulty, framed_fine}

@@ -1,5 +1,4 @@
 -- `next_label`: the frame on the line, then the rule of a label over its bytes, or the labels are over. Assumes nothing.
-use borrow.Author.Rules.{rules}
 use Rattle.lines.specs.Frames.{label_lines, to_tree}
 use Rattle.lines.specs.Line.{next_label}
 use Rattle.lines.proofs.Table.{framed_faulty, framed_fine}

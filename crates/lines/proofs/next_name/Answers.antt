@@ -1,5 +1,4 @@
 -- `next_name`: the frame on the line, then the rule of a free name over its bytes. Assumes nothing.
-use borrow.Author.Rules.{rules}
 use Rattle.lines.specs.Frames.{free_names, only}
 use Rattle.lines.specs.Line.{next_name}
 use Rattle.lines.proofs.Table.{name_long, in_only, framed_faulty, framed_fine}

@@ -1,5 +1,4 @@
 -- `next_node`: the frame on the line, the tests of room and depth, then the rule of the node's kind. Assumes nothing.
-use borrow.Author.Rules.{rules}
 use borrow.Author.Tests.{le-leb, lt-leb, eq-eqb, ne_eqb}
 use Rattle.lines.specs.Frames.{tree_lines, only}
 use Rattle.lines.specs.Line.{next_node}
@@ -42,4 +41,4 @@ returns-else-depth-eq0 c =
     let start = c.args in
     let spanned = c.only.ensures in
     let fine = framed_fine start.text.now (only tree_lines) start.at _ spanned _ c.frame_in.ensures _ c.in-Frame.is in
-    rw (fine.judged, lt-leb _ _ c.if-count-ge-MOST_NODES.false, ne_eqb _ _ c.if-depth-eq0.false) c.Node-in.ensures
+    rw (fine.judged, lt-leb _ _ c.if-count-ge-MOST_NODES.false, ne_eqb _ _ c.if-depth-eq0.false) c.node_in.ensures

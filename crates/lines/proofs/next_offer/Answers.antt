@@ -1,5 +1,4 @@
 -- `next_offer`: the frame on the line, then the rule of an offer over its bytes, or the offers are over. Assumes nothing.
-use borrow.Author.Rules.{rules}
 use Rattle.lines.specs.Frames.{offer_lines, to_tree}
 use Rattle.lines.specs.Line.{next_offer}
 use Rattle.lines.proofs.Table.{framed_faulty, framed_fine}

@@ -2,7 +2,6 @@
 use Prim.Native.Nat.{◌<◌}
 use mathlib.Core.Path.{sym, ap, ◌∙◌}
 use native.Mathlib.Omega.{arith}
-use borrow.Author.Rules.{rules}
 use lib.ListN.{length}
 use Rattle.lines.specs.Frames.{frame_of}
 use Rattle.lines.specs.inner.Working.{row_of, framed_of}

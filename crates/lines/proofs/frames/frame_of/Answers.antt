@@ -1,6 +1,5 @@
 -- `frame_of`: the row of each first byte, and none for any other. Assumes nothing.
 use borrow.Author.Rules.{rules}
-use borrow.Author.Tests.{ne_eqb}
 use Rattle.lines.specs.Frames.{table, frame_from}
 use Rattle.lines.proofs.frames.frame_of.Goals as goal
 
@@ -62,22 +61,4 @@ returns-in-25 c = rw c.in-25.is c.row-in-25.ensures
 
 pub returns-in_default : goal.returns-in_default
 unfolding table frame_from
-returns-in_default c =
-    let first = c.args.first in
-    let rest = c.in_default.rest in
-    simp (
-      ne_eqb first 0x19 rest.1,
-      ne_eqb first 0x18 rest.0.1,
-      ne_eqb first 0x17 rest.0.0.1,
-      ne_eqb first 0x16 rest.0.0.0.1,
-      ne_eqb first 0x15 rest.0.0.0.0.1,
-      ne_eqb first 0x14 rest.0.0.0.0.0.1,
-      ne_eqb first 0x13 rest.0.0.0.0.0.0.1,
-      ne_eqb first 0x12 rest.0.0.0.0.0.0.0.1,
-      ne_eqb first 0x11 rest.0.0.0.0.0.0.0.0.1,
-      ne_eqb first 0x10 rest.0.0.0.0.0.0.0.0.0.1,
-      ne_eqb first 0x04 rest.0.0.0.0.0.0.0.0.0.0.1,
-      ne_eqb first 0x03 rest.0.0.0.0.0.0.0.0.0.0.0.1,
-      ne_eqb first 0x02 rest.0.0.0.0.0.0.0.0.0.0.0.0.1,
-      ne_eqb first 0x01 rest.0.0.0.0.0.0.0.0.0.0.0.0.0.1,
-    ) c.row-in_default.ensures
+returns-in_default c = search rules

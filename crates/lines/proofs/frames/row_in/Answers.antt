@@ -1,5 +1,4 @@
 -- `row_in`: each return is the definition's answer under the tests that led to it. Assumes nothing.
-use borrow.Author.Rules.{rules}
 use borrow.Author.Tests.{le-leb, lt-leb}
 use Rattle.lines.specs.Frames.{row_in}
 use Rattle.lines.proofs.frames.row_in.Goals as goal

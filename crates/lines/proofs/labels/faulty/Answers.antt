@@ -1,5 +1,4 @@
 -- `faulty`: the refusal's number, and no label beside it. Assumes nothing.
-use borrow.Author.Rules.{rules}
 use Rattle.lines.proofs.labels.faulty.Goals as goal
 
 pub returns : goal.returns

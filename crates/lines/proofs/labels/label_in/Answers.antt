@@ -1,7 +1,6 @@
 -- `label_in`: the rule by the row's section, over the label in the frame's bytes, of which it has 4 to 63. Assumes nothing.
 use mathlib.Core.Path.{ap, ◌∙◌}
 use native.Mathlib.Omega.{arith}
-use borrow.Author.Rules.{rules}
 use borrow.Author.Tests.{eq-eqb, ne_eqb}
 use Rattle.text.specs.Positions.{bytes_at}
 use Rattle.lines.specs.Frames.{label_lines}

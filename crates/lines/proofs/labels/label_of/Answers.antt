@@ -4,7 +4,6 @@ use mathlib.Core.Path.{sym}
 use native.Mathlib.Omega.{arith}
 use lib.ListN.{replicate}
 use lib.Seq.{length-take-le}
-use borrow.Author.Rules.{rules}
 use Rattle.limits.specs.Limits.{longest_label}
 use Rattle.text.specs.Positions.{bytes_at}
 use Rattle.lines.proofs.Padded.{label_laid}

@@ -1,8 +1,7 @@
 -- `label_rule`: each return is the rule's answer under the tests that led to it. Assumes nothing.
 use mathlib.Core.Path.{sym, ◌∙◌}
 use lib.Seq.{length-take-le}
-use borrow.Author.Rules.{rules}
-use borrow.Author.Tests.{lt-ltb, le-ltb, not-true, not-false}
+use borrow.Author.Tests.{lt-ltb, le-ltb}
 use Rattle.label_bytes.proofs.Labels.{test_is}
 use Rattle.lines.specs.Labels.{label_rule}
 use Rattle.lines.proofs.labels.label_rule.Goals as goal

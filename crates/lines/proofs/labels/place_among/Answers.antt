@@ -1,5 +1,4 @@
 -- `place_among`: each return is the definition's answer under the tests that led to it. Assumes nothing.
-use borrow.Author.Rules.{rules}
 use Rattle.lines.specs.Labels.{place_among}
 use Rattle.text.proofs.Tests.{tests}
 use Rattle.lines.proofs.labels.place_among.Goals as goal

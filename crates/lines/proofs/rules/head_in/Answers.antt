@@ -1,5 +1,4 @@
 -- `head_in`: the rule, over the frame's bytes, under the tests that led to each return. Assumes nothing.
-use borrow.Author.Rules.{rules}
 use Rattle.lines.specs.Rules.{head_rule}
 use borrow.Author.Tests.{eq-eqb, ne_eqb}
 use Rattle.lines.proofs.rules.head_in.Goals as goal

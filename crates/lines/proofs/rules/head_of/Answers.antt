@@ -1,5 +1,4 @@
 -- `head_of`: each number is a byte of the frame. Assumes nothing.
-use borrow.Author.Rules.{rules}
 use Rattle.lines.proofs.rules.head_of.Goals as goal
 
 pub returns : goal.returns

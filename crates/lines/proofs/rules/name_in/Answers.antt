@@ -1,6 +1,5 @@
 -- `name_in`: the rule, over the frame's bytes. Assumes nothing.
 use mathlib.Core.Path.{◌∙◌}
-use borrow.Author.Rules.{rules}
 use Rattle.lines.proofs.rules.name_in.Goals as goal
 
 pub returns : goal.returns

@@ -1,7 +1,6 @@
 -- `node_in`: by cases on the kind, whose frame has the bytes that its rule asks for. Assumes nothing.
 use mathlib.Core.Path.{ap, ◌∙◌}
 use native.Mathlib.Omega.{arith}
-use borrow.Author.Rules.{rules}
 use Rattle.lines.specs.Values.{step_of}
 use Rattle.lines.proofs.Table.{long_by_kind, rule_by_kind}
 use Rattle.lines.proofs.rules.node_in.Goals as goal

@@ -1,7 +1,6 @@
 -- `offer_in`: the rule by the row's section, over the frame's bytes, of which an offer has six. Assumes nothing.
 use mathlib.Core.Path.{ap, ◌∙◌}
 use native.Mathlib.Omega.{arith}
-use borrow.Author.Rules.{rules}
 use borrow.Author.Tests.{eq-eqb, ne_eqb}
 use Rattle.lines.specs.Frames.{offer_lines}
 use Rattle.lines.specs.Rules.{offer_by}

@@ -1,7 +1,6 @@
 -- `offer_rule`: each return is the rule's answer under the tests that led to it. Assumes nothing.
 use mathlib.Core.Path.{◌∙◌}
-use borrow.Author.Rules.{rules}
-use borrow.Author.Tests.{le-leb, lt-leb, lt-ltb, le-ltb, not-true, not-false}
+use borrow.Author.Tests.{le-leb, lt-leb, lt-ltb, le-ltb}
 use Rattle.sets.proofs.Minimum.{none_told}
 use Rattle.sets.proofs.Width.{narrow_told}
 use Rattle.lines.specs.Rules.{offer_rule}

@@ -1,6 +1,5 @@
 -- `outside_limits`: each return is the definition's answer under the tests that led to it. Assumes nothing.
 use Rattle.lines.specs.Rules.{outside_limits}
-use borrow.Author.Rules.{rules}
 use Rattle.text.proofs.Tests.{tests}
 use Rattle.lines.proofs.rules.outside_limits.Goals as goal
 

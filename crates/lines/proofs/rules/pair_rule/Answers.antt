@@ -4,7 +4,6 @@ use Rattle.lines.specs.Rules.{pair_rule}
 use Rattle.text.proofs.Tests.{tests}
 use borrow.Author.Tests.{le-ltb}
 use mathlib.Core.Path.{sym, ap, ◌∙◌}
-use borrow.Author.Rules.{rules}
 use Rattle.lines.proofs.rules.pair_rule.Goals as goal
 
 pub returns-then-x-gt-HIGHEST_NAME : goal.returns-then-x-gt-HIGHEST_NAME

@@ -3,7 +3,6 @@ use Rattle.lines.specs.Rules.{receive_rule}
 use Rattle.text.proofs.Tests.{tests}
 use borrow.Author.Tests.{le-ltb, lt-leb}
 use mathlib.Core.Path.{sym, ◌∙◌}
-use borrow.Author.Rules.{rules}
 use Rattle.lines.proofs.rules.receive_rule.Goals as goal
 
 pub returns-then-x-gt-HIGHEST_NAME : goal.returns-then-x-gt-HIGHEST_NAME

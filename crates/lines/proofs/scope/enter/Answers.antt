@@ -1,5 +1,4 @@
 -- `enter`: by cases on the node, as the definition goes. Assumes nothing.
-use borrow.Author.Rules.{rules}
 use Rattle.lines.proofs.scope.enter.Goals as goal
 
 pub returns-in-Nil : goal.returns-in-Nil
