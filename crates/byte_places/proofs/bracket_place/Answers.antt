@@ -1,6 +1,5 @@
 -- `bracket_place`: the tests of the definition, in its order. Assumes nothing.
 use Rattle.byte_places.specs.BytePlaces.{first_fault_from, bracket_faults}
-use borrow.Author.Rules.{rules}
 use Rattle.byte_places.proofs.bracket_place.Goals as goal
 
 pub returns : goal.returns

@@ -1,6 +1,6 @@
 -- `byte_place`: by cases on the number. Assumes nothing.
 use mathlib.Core.Path.{ap, ◌∙◌}
-use borrow.Author.Rules.{rules}
+use native.Mathlib.Omega.{arith}
 use borrow.Author.Tests.{ne_eqb}
 use Rattle.lines.specs.Frames.{frame_of}
 use Rattle.byte_places.specs.BytePlaces.{place_on}
@@ -38,12 +38,11 @@ pub returns-in_default : goal.returns-in_default
 unfolding place_on
 returns-in_default c =
     let number = c.args.number in
-    let rest = c.in_default.rest in
     simp (
-      ne_eqb number 9 rest.1,
-      ne_eqb number 7 rest.0.1,
-      ne_eqb number 6 rest.0.0.1,
-      ne_eqb number 5 rest.0.0.0.1,
-      ne_eqb number 3 rest.0.0.0.0.1,
-      ne_eqb number 2 rest.0.0.0.0.0.1,
+      ne_eqb number 9 (omega arith),
+      ne_eqb number 7 (omega arith),
+      ne_eqb number 6 (omega arith),
+      ne_eqb number 5 (omega arith),
+      ne_eqb number 3 (omega arith),
+      ne_eqb number 2 (omega arith),
     )

@@ -1,6 +1,5 @@
 -- `frame_place`: by cases on the kind. Assumes nothing.
 use Rattle.byte_places.specs.BytePlaces.{first_fault_from}
-use borrow.Author.Rules.{rules}
 use Rattle.byte_places.proofs.frame_place.Goals as goal
 
 pub returns-in-NoNode : goal.returns-in-NoNode

@@ -1,5 +1,4 @@
 -- `head_in`: each number is a byte of the frame. Assumes nothing.
-use borrow.Author.Rules.{rules}
 use Rattle.byte_places.proofs.head_in.Goals as goal
 
 pub returns : goal.returns

@@ -1,6 +1,5 @@
 -- `is_nothing`: by what the name means. Assumes nothing.
 use mathlib.Core.Path.{sym, ap, ◌∙◌}
-use borrow.Author.Rules.{rules}
 use Rattle.byte_places.specs.BytePlaces.{is_nothing}
 use Rattle.byte_places.proofs.is_nothing.Goals as goal
 

@@ -1,7 +1,6 @@
 -- `is_wide`: the test of a narrow set, turned round. Assumes nothing.
 use mathlib.Core.Bool.{not}
 use mathlib.Core.Path.{sym, ap, ◌∙◌}
-use borrow.Author.Rules.{rules}
 use Rattle.sets.specs.Set.{is_narrow}
 use Rattle.sets.proofs.Width.{narrow_told}
 use Rattle.byte_places.proofs.is_wide.Goals as goal

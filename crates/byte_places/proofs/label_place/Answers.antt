@@ -1,6 +1,5 @@
 -- `label_place`: the tests of the definition, in its order. Assumes nothing.
 use Rattle.byte_places.specs.BytePlaces.{first_fault_from, label_faults}
-use borrow.Author.Rules.{rules}
 use Rattle.byte_places.proofs.label_place.Goals as goal
 
 pub returns : goal.returns

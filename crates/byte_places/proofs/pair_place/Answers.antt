@@ -1,6 +1,5 @@
 -- `pair_place`: the tests of the definition, in its order. Assumes nothing.
 use Rattle.byte_places.specs.BytePlaces.{first_fault_from, pair_faults}
-use borrow.Author.Rules.{rules}
 use Rattle.byte_places.proofs.pair_place.Goals as goal
 
 pub returns : goal.returns

@@ -1,6 +1,5 @@
 -- `receive_unmeant`: the tests of the definition, in its order. Assumes nothing.
 use Rattle.byte_places.specs.BytePlaces.{first_fault_from, receive_unmeant}
-use borrow.Author.Rules.{rules}
 use Rattle.byte_places.proofs.receive_unmeant.Goals as goal
 
 pub returns : goal.returns

@@ -1,7 +1,6 @@
 -- `section_place`: by cases on the section. Assumes nothing.
 use borrow.Author.Tests.{eq-eqb, ne_eqb}
 use Rattle.byte_places.specs.BytePlaces.{first_fault_from, section_faults}
-use borrow.Author.Rules.{rules}
 use Rattle.byte_places.proofs.section_place.Goals as goal
 
 pub returns-then-section-eq-FREE_NAMES : goal.returns-then-section-eq-FREE_NAMES
