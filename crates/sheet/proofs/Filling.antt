@@ -47,9 +47,9 @@ filled_most (s ∷ ss) = go (is_none s) (filled_most ss)
 -- ---- a row's lines
 
 -- the line of a set that is not empty
-pub set_line : (name : List ℕ) (s : Set) → is_none s ≡ false → hex_lines (set_line name s) ≡ hex_line (name ++ set_bytes s)
+pub set_line_lem : (name : List ℕ) (s : Set) → is_none s ≡ false → hex_lines (set_line name s) ≡ hex_line (name ++ set_bytes s)
 unfolding hex_lines
-set_line name s n = simp n (append-nil (hex_line (name ++ set_bytes s)))
+set_line_lem name s n = simp n (append-nil (hex_line (name ++ set_bytes s)))
 
 -- an empty set has none
 pub set_none : (name : List ℕ) (s : Set) → is_none s ≡ true → hex_lines (set_line name s) ≡ []

@@ -17,7 +17,7 @@ use Rattle.label_bytes.specs.Label.{IsLabel, shortened}
 use Rattle.label_bytes.proofs.Labels.{shortened_is, shortened_label, label_well_formed, well_formed_append, all_plain, plain_well_formed}
 use Rattle.lines.specs.declared.Head.{Head}
 use Rattle.lines.specs.declared.Label.{Label}
-use Rattle.lines.specs.Labels.{channel_kind, level_kind, bytes_of_label}
+use Rattle.lines.specs.Labels.{channel_kind, level_kind, bytes_of_label, place_among}
 use Rattle.lines.specs.Values.{padded, no_label}
 use Rattle.putting.specs.Characters.{text}
 use Rattle.putting.specs.Put.{Put}
@@ -61,7 +61,7 @@ padded_listed h least before labels within most = record {
     each : (least : ℕ) (before labels : List Label) → LabelsWithin h least before labels → (i : ℕ) (d : Label) → i < length labels → Fits (get_or labels i d)
     each least before [] w i d l = absurd (omega arith)
     each least before (label ∷ labels) w zero d l = omega (arith, w.0.most, w.0.array)
-    each least before (label ∷ labels) w (suc i) d l = each _ _ labels w.2 i d (omega arith)
+    each least before (label ∷ labels) w (suc i) d l = each (place_among label.kind label.number + 1) _ labels w.2 i d (omega arith)
 
 module _ (plan : List ℕ) (r : Reading) (e : r ≡ reading_of (plan_in plan)) where
   pub read_listed : Listed r.labels r.labelled
@@ -218,7 +218,7 @@ within_labelling : (h : Head) (least : ℕ) (before labels : List Label) → Lab
 unfolding label_for
 within_labelling h least before [] w kind number some = absurd (omega arith)
 within_labelling h least before (label ∷ labels) w kind number some =
-    go (is_of kind number label) (within_labelling h _ _ labels w.2 kind number) some
+    go (is_of kind number label) (within_labelling h (place_among label.kind label.number + 1) _ labels w.2 kind number) some
   where
     go : (b : Bool) → (0 < length (label_for kind number labels) → IsLabel (label_for kind number labels))
         → 0 < length (cond b (bytes_of_label label) (label_for kind number labels)) → IsLabel (cond b (bytes_of_label label) (label_for kind number labels))

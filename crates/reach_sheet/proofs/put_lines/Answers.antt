@@ -1,12 +1,8 @@
 -- `put_lines`: what is left to be put are the lines of the places from the place on. Assumes nothing.
-use Prim.Native.Nat.{◌-◌, ◌≤◌}
 use native.Mathlib.Omega.{arith}
-use borrow.Author.Rules.{rules}
-use Rattle.limits.specs.Limits.{most_channels, levels, level_sets}
+use Rattle.limits.specs.Limits.{most_channels, levels}
 use Rattle.limits.proofs.Places.{level_of}
-use Rattle.putting.specs.Characters.{hex_lines}
-use Rattle.putting.proofs.Putting.{Left, left_all}
-use Rattle.reach_sheet.specs.ReachSheet.{reach_lines}
+use Rattle.putting.proofs.Putting.{left_all}
 use Rattle.reach_sheet.proofs.Reached.{place_room, place_step, places_end}
 use Rattle.reach_sheet.proofs.put_lines.Goals as goal
 
@@ -17,7 +13,7 @@ pub at-set-requires : goal.at-set-requires
 at-set-requires c =
     let at = c.loop-place in
     let level = level_of most_channels levels at.place (omega arith) in
-    omega (arith, slice-aggregate-at c)
+    omega arith
 
 pub put_place-next-requires : goal.put_place-next-requires
 put_place-next-requires c =

@@ -1,13 +1,9 @@
 -- `put_lines`: what is left to be put are the lines of the places from the place on. Assumes nothing.
 use Prim.Native.Nat.{◌-◌, ◌≤◌}
-use native.Mathlib.Omega.{arith}
-use borrow.Author.Rules.{rules}
-use Rattle.limits.specs.Limits.{most_channels, levels, level_sets}
-use Rattle.limits.proofs.Places.{level_of}
+use Rattle.limits.specs.Limits.{level_sets}
 use Rattle.putting.specs.Characters.{hex_lines}
-use Rattle.putting.proofs.Putting.{Left, left_all}
+use Rattle.putting.proofs.Putting.{Left}
 use Rattle.reach_sheet.specs.ReachSheet.{reach_lines}
-use Rattle.reach_sheet.proofs.Reached.{place_room, place_step, places_end}
 use Rattle.reach_sheet.proofs.put_lines.Given as goal
 
 abbrev pub invariant-loop-place : goal.invariant-loop-place

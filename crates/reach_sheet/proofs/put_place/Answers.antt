@@ -1,7 +1,6 @@
 -- `put_place`: a line where the handle is among the level's, and otherwise nothing. Assumes nothing.
 use mathlib.Core.Path.{refl, sym, ◌∙◌}
 use mathlib.Core.List.{[], ◌∷◌}
-use borrow.Author.Rules.{rules}
 use Rattle.putting.proofs.Putting.{put_none, put_same}
 use Rattle.reach_sheet.proofs.Reached.{line_there, line_none, line_room}
 use Rattle.reach_sheet.proofs.put_place.Goals as goal

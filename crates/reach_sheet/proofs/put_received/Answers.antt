@@ -1,13 +1,9 @@
 -- `put_received`: a refusal's sheet, or the lines of all places and behind them the phrase. Assumes nothing.
 use mathlib.Core.Path.{subst}
-use borrow.Author.Rules.{rules}
 use Rattle.putting.specs.Put.{Room}
 use Rattle.putting.proofs.Putting.{room_first, room_then, put_then, put_same}
 use Rattle.reach_sheet.proofs.Reached.{complete_is, refused_is}
 use Rattle.reach_sheet.proofs.put_received.Goals as goal
-
-slice-aggregate-put-text : tie.Need-slice-aggregate-put-text
-slice-aggregate-put-text c = search rules
 
 pub put_refusal-requires : goal.put_refusal-requires
 put_refusal-requires c =

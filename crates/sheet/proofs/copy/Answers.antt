@@ -1,5 +1,4 @@
 -- `copy`: the front part of the array is written where the buffer holds it; its length is the sheet's size. Assumes nothing.
-use borrow.Author.Rules.{rules}
 use Rattle.sheet.proofs.Writing.{short_wrote, whole_wrote}
 use Rattle.sheet.proofs.copy.Goals as goal
 

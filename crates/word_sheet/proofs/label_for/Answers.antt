@@ -1,10 +1,7 @@
 -- `label_for`: the label is looked for among those from i on. Assumes nothing.
-use Prim.Native.Nat.{◌-◌, ◌≤◌}
-use mathlib.Core.Path.{◌≡◌, refl, sym, ap, subst⁻¹, ◌∙◌}
+use mathlib.Core.Path.{refl, sym, ap, subst⁻¹, ◌∙◌}
 use native.Mathlib.Omega.{arith}
-use lib.ListN.{take, drop}
 use Rattle.lines.specs.Labels.{bytes_of_label}
-use Rattle.word_sheet.specs.WordSheet.{label_for}
 use Rattle.word_sheet.specs.inner.Working.{Fits}
 use Rattle.word_sheet.proofs.Naming.{label_found, label_passed, label_none}
 use Rattle.word_sheet.proofs.label_for.Goals as goal

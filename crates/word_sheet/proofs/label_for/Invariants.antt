@@ -1,12 +1,8 @@
 -- `label_for`: the label is looked for among those from i on. Assumes nothing.
 use Prim.Native.Nat.{◌-◌, ◌≤◌}
-use mathlib.Core.Path.{◌≡◌, refl, sym, ap, subst⁻¹, ◌∙◌}
-use native.Mathlib.Omega.{arith}
+use mathlib.Core.Path.{◌≡◌}
 use lib.ListN.{take, drop}
-use Rattle.lines.specs.Labels.{bytes_of_label}
 use Rattle.word_sheet.specs.WordSheet.{label_for}
-use Rattle.word_sheet.specs.inner.Working.{Fits}
-use Rattle.word_sheet.proofs.Naming.{label_found, label_passed, label_none}
 use Rattle.word_sheet.proofs.label_for.Given as goal
 
 abbrev pub invariant-loop-i : goal.invariant-loop-i

@@ -1,5 +1,4 @@
 -- `put_decimal`: one digit, or two. Assumes nothing.
-use borrow.Author.Rules.{rules}
 use Rattle.putting.proofs.Putting.{put_same}
 use Rattle.word_sheet.proofs.Naming.{one_digit, two_digits}
 use Rattle.word_sheet.proofs.put_decimal.Goals as goal

@@ -2,7 +2,6 @@
 use mathlib.Core.Path.{sym}
 use native.Mathlib.Omega.{arith}
 use lib.Seq.{length-take-le}
-use borrow.Author.Rules.{rules}
 use Rattle.word_sheet.proofs.Naming.{named_by_number, named_by_label, short_most}
 use Rattle.word_sheet.proofs.put_name.Goals as goal
 

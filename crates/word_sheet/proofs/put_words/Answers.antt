@@ -5,12 +5,6 @@ use Rattle.word_sheet.specs.inner.Working.{VerdictTwoDigits}
 use Rattle.word_sheet.proofs.Words.{read_listed, told_put, read_put}
 use Rattle.word_sheet.proofs.put_words.Goals as goal
 
-slice-aggregate-put-text : tie.Need-slice-aggregate-put-text
-slice-aggregate-put-text c = search rules
-
-slice-aggregate-put-text-2 : tie.Need-slice-aggregate-put-text-2
-slice-aggregate-put-text-2 c = search rules
-
 pub put_breach-requires : goal.put_breach-requires
 put_breach-requires c =
     let short = subst VerdictTwoDigits c.in-No.is c.requires.0 in

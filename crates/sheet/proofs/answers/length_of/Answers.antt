@@ -1,7 +1,6 @@
 -- `length_of`: the lines of each verdict, and its phrase. Assumes nothing.
 use mathlib.Core.Path.{refl, sym}
 use native.Mathlib.Omega.{arith}
-use borrow.Author.Rules.{rules}
 use Rattle.judging.specs.declared.Verdict.TheVariants.{Yes, No}
 use Rattle.sheet.proofs.Parts.{refused_size, judged_size}
 use Rattle.sheet.proofs.answers.length_of.Goals as goal
@@ -17,5 +16,4 @@ returns-in-Yes c =
 pub returns-in-No : goal.returns-in-No
 returns-in-No c =
     let answer = c.args.answer in
-    let told = c.enum_told-in-No-1.given in
-    omega (arith, judged_size answer (No told.0.0) told.1 refl)
+    omega (arith, judged_size answer (No c.in-No.field-0) c.in-No.is refl)

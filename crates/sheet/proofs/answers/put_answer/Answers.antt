@@ -4,7 +4,6 @@ use Rattle.judging.specs.declared.Verdict.TheVariants.{Yes, No}
 use Rattle.putting.specs.Put.{Room}
 use Rattle.putting.proofs.Putting.{put_same}
 use Rattle.sheet.proofs.Parts.{refused_parts, judged_parts}
-use borrow.Author.Rules.{rules}
 use Rattle.sheet.proofs.answers.put_answer.Goals as goal
 
 pub put_refusal-requires : goal.put_refusal-requires

@@ -1,5 +1,4 @@
 -- `put_judged`: the lines in front of the verdict, and behind them the last two. Assumes nothing.
-use borrow.Author.Rules.{rules}
 use Rattle.putting.proofs.Putting.{room_first, room_then, put_then}
 use Rattle.sheet.proofs.answers.put_judged.Goals as goal
 

@@ -1,15 +1,9 @@
 -- `filled`: the count so far, with what is still to be counted, is the whole. Assumes nothing.
-use Prim.Native.Nat.{◌+◌, ◌-◌, ◌≤◌}
-use mathlib.Core.Path.{◌≡◌, subst, ◌∙◌}
-use mathlib.Core.Logic.{⊎_elim}
+use mathlib.Core.Path.{subst, ◌∙◌}
 use native.Mathlib.Omega.{arith}
-use borrow.Author.Rules.{rules}
-use borrow.Author.Tests.{not-true, not-false}
-use lib.ListN.{length, drop}
 use Rattle.sets.specs.Set.{Empty, Decides}
 use Rattle.sets.specs.Rows.{set_at}
 use Rattle.sets.proofs.Minimum.{none_told}
-use Rattle.sheet.specs.inner.Working.{filled_in}
 use Rattle.sheet.proofs.Filling.{filled_empty, filled_more, filled_end}
 use Rattle.sheet.proofs.rows.filled.Goals as goal
 use Rattle.sheet.proofs.rows.filled.Goals.{else-not-is_empty, then-not-is_empty}

@@ -1,12 +1,10 @@
 -- `put_row`: what is left to be put are the lines of the sets from the place on. Assumes nothing.
 use Prim.Native.Nat.{◌-◌}
-use native.Mathlib.Omega.{arith}
 use lib.ListN.{length, drop}
 use Rattle.putting.specs.Characters.{hex_lines}
 use Rattle.sheet.specs.Sheet.{set_lines}
 use Rattle.sheet.specs.inner.Working.{part_name, row_text}
-use Rattle.putting.proofs.Putting.{Left, left_all}
-use Rattle.sheet.proofs.Filling.{row_room, row_step, row_end}
+use Rattle.putting.proofs.Putting.{Left}
 use Rattle.sheet.proofs.rows.put_row.Given as goal
 
 abbrev pub invariant-loop-place : goal.invariant-loop-place
