@@ -1,6 +1,6 @@
 -- Only memberships of the plan are ever wanted: a plan within its head's limits names nothing else, clause by clause.
 -- Assumes nothing.
-use Prim.Native.Nat.{ℕ, zero, suc, ◌<◌}
+use Prim.Native.Nat.{ℕ, zero, suc, ◌+◌, ◌<◌}
 use mathlib.Core.Path.{refl, subst⁻¹}
 use mathlib.Core.List.{List, [], ◌∷◌, ◌++◌}
 use mathlib.Core.Logic.{inl, inr, ⊎_elim}
@@ -72,7 +72,7 @@ pub offered_below : (h : Head) (least : ℕ) (offers : List Offer) → OffersWit
     → (c < h.channels) × (o < h.channels)
 offered_below h least [] g c o w = absurd w
 offered_below h least (offer ∷ offers) g c o w =
-    ⊎_elim (λ e. (subst⁻¹ (λ k. k < h.channels) e.0 g.0.channel, g.0.handles o e.1)) (offered_below h _ offers g.1 c o) w
+    ⊎_elim (λ e. (subst⁻¹ (λ k. k < h.channels) e.0 g.0.channel, g.0.handles o e.1)) (offered_below h (offer.channel + 1) offers g.1 c o) w
 
 offered_within : (h : Head) (offers : List Offer) → OffersWithin h 0 offers → (f : Fact) → OfferWants offers f → InRange h f
 offered_within h offers g (binder_set b o) w = absurd w

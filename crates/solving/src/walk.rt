@@ -7,7 +7,7 @@ use limits::MOST_NODES;
 use reading::Slot;
 
 // Walks the tree whose root stands at `at`, adds what it wants, and says where it ends.
-#[cycle(walk_branches_walk_node)]
+#[cycle(walk)]
 pub(crate) fn walk_node(
     depth: usize,
     nodes: [Slot; MOST_NODES],
@@ -36,7 +36,7 @@ pub(crate) fn walk_node(
 }
 
 // Walks a node's branches, none, one or two: the first at `at`, the second where the first ends.
-#[cycle(walk_branches_walk_node)]
+#[cycle(walk)]
 fn walk_branches(
     depth: usize,
     nodes: [Slot; MOST_NODES],

@@ -3,7 +3,6 @@
 use Rattle.reading.specs.Plan.{plan_in}
 use Rattle.reading.proofs.Promise.{kept}
 use Rattle.solving.proofs.Readings.{refusal_solves, reading_spelled, plan_solves}
-use borrow.Author.Rules.{rules}
 use Rattle.solving.proofs.solve.Goals as goal
 
 pub returns-then-number-ne0 : goal.returns-then-number-ne0

@@ -4,14 +4,17 @@ use mathlib.Core.Path.{◌∙◌}
 use native.Mathlib.Omega.{arith}
 use Rattle.lines.specs.declared.Node.TheVariants.{Bracket}
 use Rattle.solving.proofs.Steps.{able_level, inner_fits, asks, not_live, bracket_adds}
-use borrow.Author.Rules.{rules}
 use Rattle.solving.proofs.clauses.bracketing.Goals as goal
 
 pub ins_at-requires : goal.ins_at-requires
 ins_at-requires c = able_level _ _ _ _ c.requires
 
 pub ins_at-requires-then-live : goal.ins_at-requires-then-live
-ins_at-requires-then-live c = inner_fits _ _ _ _ c.requires
+ins_at-requires-then-live c =
+    let s = c.requires in
+    let l = able_level _ _ _ _ s in
+    let m = inner_fits _ _ _ _ s in
+    omega arith
 
 pub merge-requires : goal.merge-requires
 merge-requires c =

@@ -2,7 +2,6 @@
 -- Assumes nothing.
 use Rattle.lines.specs.declared.Node.TheVariants.{Nil, Silent, Sum, Parallel, Restriction, Replication}
 use Rattle.solving.proofs.Steps.{able_at, passes_at, stepped_at}
-use borrow.Author.Rules.{rules}
 use Rattle.solving.proofs.clauses.clause.Goals as goal
 
 pub sending-asked-requires : goal.sending-asked-requires
@@ -41,8 +40,8 @@ returns-in-Parallel c =
 
 pub returns-in-Restriction : goal.returns-in-Restriction
 returns-in-Restriction c =
-    let g = c.enum_told-in-Restriction-1.given in
-    passes_at (Restriction g.0.0 g.0.1.0) _ _ _ _ _ c.requires.lent.news g.1 tt (λ f w. w)
+    let r = c.in-Restriction in
+    passes_at (Restriction r.field-0 r.field-1) _ _ _ _ _ c.requires.lent.news r.is tt (λ f w. w)
 
 pub returns-in-Match : goal.returns-in-Match
 returns-in-Match c = stepped_at _ _ _ _ _ _ _ _ c.in-Match.is c.matching-asked.ensures

@@ -4,7 +4,6 @@ use mathlib.Core.Logic.{inr}
 use Rattle.lines.specs.declared.Node.TheVariants.{Match}
 use Rattle.solving.proofs.Tables.{adds_none}
 use Rattle.solving.proofs.Steps.{marker_fits, asks, asks_if, not_live, meets_of, apart_of}
-use borrow.Author.Rules.{rules}
 use Rattle.solving.proofs.clauses.matching.Goals as goal
 
 pub returns-then-same_marker : goal.returns-then-same_marker

@@ -5,7 +5,6 @@ use mathlib.Core.Path.{◌∙◌}
 use native.Mathlib.Omega.{arith}
 use Rattle.lines.specs.declared.Node.TheVariants.{Receive}
 use Rattle.solving.proofs.Steps.{marker_fits, binder_fits, able_level, asks, asks_not, not_live, sounding_heard, receive_adds}
-use borrow.Author.Rules.{rules}
 use Rattle.solving.proofs.clauses.receiving.Goals as goal
 
 pub set_of-from-requires : goal.set_of-from-requires

@@ -1,7 +1,6 @@
 -- Markers are the same where both are channels, or both are binders, of one number.
 -- Assumes nothing.
 use Rattle.solving.proofs.Steps.{same_channels, same_binders, not_same}
-use borrow.Author.Rules.{rules}
 use Rattle.solving.proofs.clauses.same_marker.Goals as goal
 
 pub returns-in-Channel-y : goal.returns-in-Channel-y

@@ -7,7 +7,6 @@ use Rattle.lines.specs.declared.Node.TheVariants.{Send}
 use Rattle.solving.specs.Solutions.{SetOf}
 use Rattle.solving.specs.inner.Table.{in_table}
 use Rattle.solving.proofs.Steps.{marker_fits, able_level, asks, asks_not, not_live, send_asks, send_adds}
-use borrow.Author.Rules.{rules}
 use Rattle.solving.proofs.clauses.sending.Goals as goal
 
 pub set_of-from-requires : goal.set_of-from-requires

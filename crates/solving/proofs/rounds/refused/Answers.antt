@@ -8,7 +8,6 @@ use Rattle.reading.specs.declared.Refusal.{Refusal}
 use Rattle.reading.specs.Plan.{no_head}
 use Rattle.solving.specs.declared.Solution.{Solution}
 use Rattle.solving.specs.declared.Solved.{Solved}
-use borrow.Author.Rules.{rules}
 use Rattle.solving.proofs.rounds.refused.Goals as goal
 
 abbrev filled : Set → Solution

@@ -2,6 +2,9 @@
 -- out sets.
 -- Assumes nothing.
 use mathlib.Core.Bool.{true}
+use lib.ListN.{length}
+use mathlib.Core.Path.{◌≡◌}
+use Rattle.solving.specs.inner.Table.{table_size}
 use mathlib.Core.Path.{subst⁻¹, ◌∙◌}
 use Rattle.limits.specs.Limits.{outermost}
 use Rattle.solving.proofs.OfferRows.{RowOf, plan_row}
@@ -14,7 +17,7 @@ use Rattle.solving.proofs.rounds.round.Goals as goal
 
 pub walk_node-requires : goal.walk_node-requires
 walk_node-requires c =
-    let z = s.well_formed.1.1.0.1.0.1 in
+    let z : length c.args.table ≡ table_size = search rules in
     round_ready c.args.nodes c.args.table c.args.table z z c.requires
 
 pub returns : goal.returns
@@ -24,7 +27,7 @@ returns c =
     let every = c.every-every in
     let walk = c.walk_node in
     let a = c.args in
-    let offers = a.t2 in
+    let offers = a.offers in
     record {
       adds = λ p s.
           let row = subst⁻¹ (RowOf p.offers) s.offers (plan_row p s.within) in

@@ -1,16 +1,13 @@
 -- After so many rounds the table holds what the definition's rounds give, and none of them was idle; the measure is what is
 -- left of the allowance.
 -- Assumes nothing.
-use Prim.Native.Nat.{◌-◌, ◌≤◌}
 use mathlib.Core.Path.{◌≡◌, refl, sym, subst, subst⁻¹, ap, ◌∙◌}
 use mathlib.Core.Logic.{inl, inr}
 use native.Mathlib.Omega.{arith}
 use lib.ListN.{length}
 use Rattle.sets.specs.Rows.{SetRow}
 use Rattle.sets.proofs.SameRows.{empty_length}
-use Rattle.reading.specs.Plan.{Plan}
 use Rattle.solving.specs.inner.Table.{table_size}
-use Rattle.solving.specs.inner.Walk.{Spells}
 use Rattle.solving.proofs.Leastness.{busy_exceeds}
 use Rattle.solving.proofs.Settling.{Reached, reached_none, reached_more, settled_if, answered_by}
 use Rattle.solving.proofs.rounds.settle.Goals as goal
@@ -51,7 +48,7 @@ loop-count-preserved c =
     let z = c.round-next.ensures.sized in
     let other = c.same.ensures.no c.if-same.false in (
       omega arith,
-      z,
+      omega (arith, z, at.invariant.1),
       λ p h. reached_more p at.count at.table round.result (at.invariant.2 p h) (round.ensures.adds p h) z at.invariant.1 other,
     )
 

@@ -2,17 +2,12 @@
 -- left of the allowance.
 -- Assumes nothing.
 use Prim.Native.Nat.{◌-◌, ◌≤◌}
-use mathlib.Core.Path.{◌≡◌, refl, sym, subst, subst⁻¹, ap, ◌∙◌}
-use mathlib.Core.Logic.{inl, inr}
-use native.Mathlib.Omega.{arith}
+use mathlib.Core.Path.{◌≡◌}
 use lib.ListN.{length}
-use Rattle.sets.specs.Rows.{SetRow}
-use Rattle.sets.proofs.SameRows.{empty_length}
 use Rattle.reading.specs.Plan.{Plan}
 use Rattle.solving.specs.inner.Table.{table_size}
 use Rattle.solving.specs.inner.Walk.{Spells}
-use Rattle.solving.proofs.Leastness.{busy_exceeds}
-use Rattle.solving.proofs.Settling.{Reached, reached_none, reached_more, settled_if, answered_by}
+use Rattle.solving.proofs.Settling.{Reached}
 use Rattle.solving.proofs.rounds.settle.Given as goal
 
 abbrev pub invariant-loop-count : goal.invariant-loop-count

@@ -3,7 +3,6 @@
 use mathlib.Core.Path.{ap}
 use lib.ListN.{replicate}
 use Rattle.solving.specs.inner.Table.{table_size}
-use borrow.Author.Rules.{rules}
 use Rattle.solving.proofs.table.empty.Goals as goal
 
 pub returns : goal.returns

@@ -1,13 +1,11 @@
 -- After some levels what was sent at those is joined in.
 -- Assumes nothing.
-use Prim.Native.Nat.{ℕ, ◌-◌, ◌≤◌}
-use mathlib.Core.Path.{◌≡◌, ◌∙◌, subst}
+use Prim.Native.Nat.{ℕ}
+use mathlib.Core.Path.{◌∙◌, subst}
 use native.Mathlib.Omega.{arith}
-use lib.ListN.{length}
-use Rattle.limits.specs.Limits.{levels}
 use Rattle.sets.specs.Set.{Has}
 use Rattle.sets.specs.Rows.{Joins, Over}
-use Rattle.solving.specs.inner.Table.{table_size, ins_at, SentOn}
+use Rattle.solving.specs.inner.Table.{ins_at, SentOn}
 use Rattle.solving.proofs.Tables.{sent_on_none, sent_on_more, merged_at}
 use Rattle.solving.proofs.table.gather.Goals as goal
 

@@ -5,7 +5,6 @@ use Rattle.sets.specs.Set.{Has}
 use Rattle.sets.proofs.Decide.{says_not}
 use Rattle.sets.proofs.Minimum.{members_some}
 use Rattle.solving.specs.inner.Table.{Sent}
-use borrow.Author.Rules.{rules}
 use Rattle.solving.proofs.table.heard.Goals as goal
 
 pub returns : goal.returns

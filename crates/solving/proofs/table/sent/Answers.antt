@@ -1,14 +1,12 @@
 -- After some levels the union is of what was sent at those.
 -- Assumes nothing.
-use Prim.Native.Nat.{ℕ, ◌-◌, ◌≤◌}
+use Prim.Native.Nat.{ℕ}
 use mathlib.Core.Path.{subst, subst⁻¹}
 use native.Mathlib.Omega.{arith}
-use Rattle.limits.specs.Limits.{levels}
 use Rattle.sets.specs.Set.{Has, Members}
 use Rattle.sets.specs.Rows.{Together}
 use Rattle.solving.specs.inner.Table.{outs_at, Sent}
 use Rattle.solving.proofs.Tables.{sent_none, sent_more}
-use borrow.Author.Rules.{rules}
 use Rattle.solving.proofs.table.sent.Goals as goal
 
 pub loop-level-init : goal.loop-level-init

@@ -5,7 +5,6 @@ use native.Mathlib.Omega.{arith}
 use Rattle.limits.specs.Limits.{most_channels}
 use Rattle.solving.specs.inner.Table.{MarkerFits}
 use Rattle.solving.proofs.Steps.{set_of_channel, single_narrow, set_of_binder}
-use borrow.Author.Rules.{rules}
 use Rattle.solving.proofs.table.set_of.Goals as goal
 
 pub single-requires : goal.single-requires

@@ -2,7 +2,6 @@
 -- Assumes nothing.
 use mathlib.Core.Path.{refl}
 use Rattle.solving.proofs.Settling.{unpacked}
-use borrow.Author.Rules.{rules}
 use Rattle.solving.proofs.table.solution_of.Goals as goal
 
 pub returns : goal.returns
