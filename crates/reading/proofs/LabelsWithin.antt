@@ -27,23 +27,23 @@ use Rattle.reading.proofs.TreeWithin.{Numbered, Ends, ends_judged}
 
 -- ---- a label that is not repeated
 
-same_bytes : (xs : List ℕ) → same_bytes xs xs ≡ true
+same_bytes_lem : (xs : List ℕ) → same_bytes xs xs ≡ true
 unfolding same_bytes
-same_bytes [] = refl
-same_bytes (x ∷ xs) = rw (eq-eqb x x refl, same_bytes xs)
+same_bytes_lem [] = refl
+same_bytes_lem (x ∷ xs) = rw (eq-eqb x x refl, same_bytes_lem xs)
 
-is_same : (label other : Label) → other.kind ≡ label.kind → bytes_of_label other ≡ bytes_of_label label
+is_same_lem : (label other : Label) → other.kind ≡ label.kind → bytes_of_label other ≡ bytes_of_label label
     → is_same label.kind (bytes_of_label label) other ≡ true
 unfolding is_same
-is_same label other kind bytes = rw (eq-eqb _ _ kind, bytes, same_bytes (bytes_of_label label))
+is_same_lem label other kind bytes = rw (eq-eqb _ _ kind, bytes, same_bytes_lem (bytes_of_label label))
 
 is_new : (before : List Label) (label : Label) → is_repeated label.kind (bytes_of_label label) before ≡ false → IsNew before label
 unfolding is_repeated
-is_new [] label e other m kind bytes = Memᴰ.not_nil m
+is_new [] label e other m kind bytes = Memᴰ.not-nil m
 is_new (b ∷ before) label e other m kind bytes =
     let none = or-false (is_same label.kind (bytes_of_label label) b) _ e in
     let both : other ≡ b → is_same label.kind (bytes_of_label label) b ≡ true =
-    λ same. is_same label b (ap (λ (l : Label). l.kind) (sym same) ∙ kind) (ap bytes_of_label (sym same) ∙ bytes) in
+    λ same. is_same_lem label b (ap (λ (l : Label). l.kind) (sym same) ∙ kind) (ap bytes_of_label (sym same) ∙ bytes) in
     ⊎_elim (λ same. true_not_false _ (both same) none.0) (λ rest. is_new before label none.1 other rest kind bytes) (Memᴰ.cases_cons m)
 
 -- ---- one label more
@@ -56,7 +56,7 @@ place_behind least (label ∷ labels) = place_behind (place_among label.kind lab
 behind_more : (least : ℕ) (labels : List Label) (label : Label)
     → place_among label.kind label.number + 1 ≡ place_behind least (labels ++ (label ∷ []))
 behind_more least [] label = refl
-behind_more least (b ∷ labels) label = behind_more _ labels label
+behind_more least (b ∷ labels) label = behind_more (place_among b.kind b.number + 1) labels label
 
 module _ (h : Head) where
   more_within : (least : ℕ) (before labels : List Label) (label : Label) → LabelsWithin h least before labels
@@ -64,7 +64,7 @@ module _ (h : Head) where
   more_within least before [] label w good new = (good, subst (λ l. IsNew l label) (append-nil before) new, tt)
   more_within least before (b ∷ labels) label w good new =
       let behind = subst (λ l. IsNew l label) (sym (append_assoc before (b ∷ []) labels)) new in
-      (w.0, w.1, more_within _ (before ++ (b ∷ [])) labels label w.2 good behind)
+      (w.0, w.1, more_within (place_among b.kind b.number + 1) (before ++ (b ∷ [])) labels label w.2 good behind)
 
   -- each has a place of its own
   few_labels : HeadWithin h → (least : ℕ) (before labels : List Label) → least ≤ most_labels → LabelsWithin h least before labels
@@ -73,7 +73,7 @@ module _ (h : Head) where
   few_labels within least before (label ∷ labels) most w =
       let ascending = w.0.ascending in
       let below = place_below h within label.kind label.number w.0.thing in
-      let rest = few_labels within _ (before ++ (label ∷ [])) labels (omega arith) w.2 in
+      let rest = few_labels within (place_among label.kind label.number + 1) (before ++ (label ∷ [])) labels (omega arith) w.2 in
       omega arith
 
   -- ---- the readers

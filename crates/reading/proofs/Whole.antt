@@ -33,7 +33,7 @@ use Rattle.reading.specs.Tree.{listing}
 use Rattle.reading.specs.Plan.{Outcome, refused, read, Place, Named, read_names, Offered, read_offers, Labelled, read_labels, Grown, read_tree, Plan}
 use Rattle.reading.specs.Plan.{closed, after_head, read_plan, wrong_length, plan_in, no_name, slot, no_refusal, laying, offer_row, reading_of}
 use Rattle.reading.specs.Promise.{PlanWithin}
-use Rattle.reading.specs.inner.Working.{StandsIn, place_at, Past, FreshNames, Gathered, Gathers, FreshOffers, Laid, Lays, FreshLabels, Listed, Lists, FreshState, Grew, Grows}
+use Rattle.reading.specs.inner.Working.{place_at, Past, FreshNames, Gathered, Gathers, FreshOffers, Laid, Lays, FreshLabels, Listed, Lists, FreshState, Grew, Grows}
 use Rattle.reading.proofs.Growing.{onward_past, true_not_false}
 use Rattle.reading.proofs.TreeWithin.{Ends}
 use Rattle.reading.proofs.Promise.{after_within}
@@ -80,9 +80,6 @@ module _ (s : List ℕ) (h : Head) (cursor : Cursor) (within : HeadWithin h)
     done : (n : Named) × (reads_names ≡ read n) × Gathered s none n names
     done = names_end.1 good
 
-    pub names_stand : StandsIn s names.cursor
-    names_stand = done.2.stands
-
     module _ (blank offers : Offers) (empty : FreshOffers names.cursor blank)
         (lays : Lays s blank (read_offers h 0 blank.cursor.line (rest_at s blank.cursor.at)) offers) where
       reads_offers : Outcome Offered
@@ -104,9 +101,6 @@ module _ (s : List ℕ) (h : Head) (cursor : Cursor) (within : HeadWithin h)
         offered : (n : Offered) × (reads_offers ≡ read n) × Laid s blank n offers
         offered = offers_end.1 laid
 
-        pub offers_stand : StandsIn s offers.cursor
-        offers_stand = offered.2.stands
-
         module _ (unlabelled labels : Labels) (empty_labels : FreshLabels offers.cursor unlabelled)
             (lists : Lists s (read_labels h 0 [] unlabelled.cursor.line (rest_at s unlabelled.cursor.at)) labels) where
           reads_labels : Outcome Labelled
@@ -127,9 +121,6 @@ module _ (s : List ℕ) (h : Head) (cursor : Cursor) (within : HeadWithin h)
           module _ (listed : labels.good ≡ true) where
             labelled : (n : Labelled) × (reads_labels ≡ read n) × Listed s n labels
             labelled = labels_end.1 listed
-
-            pub labels_stand : StandsIn s labels.cursor
-            labels_stand = labelled.2.stands
 
             module _ (bare state : State) (clear : FreshState labels.cursor bare)
                 (grows : Grows s bare.nodes bare.count (read_tree most_depth h (meaning_in names.scope) bare.count (place_at s bare.cursor)) state) where

@@ -50,7 +50,7 @@ fn branches_of(node: Node) -> u8
 }
 
 // What was read before, with a tree more, of which `depth` may be used.
-#[cycle(read_branches_read_node)]
+#[cycle(tree)]
 pub(crate) fn read_node(text: &[u8], head: Head, scope: Scope, depth: usize, state: State) -> State
     requires { StandsIn text.now state.cursor }
     ensures { Grows text.now state.nodes state.count (read_tree depth head (meaning_in scope) state.count (place_at text.now state.cursor)) result }
@@ -79,7 +79,7 @@ pub(crate) fn read_node(text: &[u8], head: Head, scope: Scope, depth: usize, sta
 }
 
 // What was read before, with so many branches more: none, one, or two, the second where the first ended.
-#[cycle(read_branches_read_node)]
+#[cycle(tree)]
 fn read_branches(
     text: &[u8],
     head: Head,

@@ -1,19 +1,9 @@
 -- `after_head`: each return is one law over what the sections gave. Assumes nothing.
-use mathlib.Core.Path.{refl, sym, ap, ◌∙◌, subst}
-use native.Mathlib.Omega.{arith}
-use borrow.Author.Rules.{rules}
+use mathlib.Core.Path.{ap, ◌∙◌}
 use borrow.Author.Tests.{not-true, not-false}
 use Rattle.reading.specs.Plan.{reading_of, refused}
-use Rattle.reading.specs.inner.Working.{StandsIn}
-use Rattle.reading.proofs.Whole.{after_names, names_stand, after_offers, offers_stand, after_labels, labels_stand, after_tree, after_more, after_all}
+use Rattle.reading.proofs.Whole.{after_names, after_offers, after_labels, after_tree, after_more, after_all}
 use Rattle.reading.proofs.after_head.Goals as goal
-
-pub read_names-names-requires : goal.read_names-names-requires
-read_names-names-requires c =
-    let fresh = c.fresh_names.ensures in
-    let none = fresh.none in
-    let room = c.requires.0.names in
-    (subst (StandsIn c.args.text.now) (sym fresh.there) c.requires.1, omega arith, fresh.good)
 
 pub returns-then-not-names : goal.returns-then-not-names
 returns-then-not-names c =
@@ -21,81 +11,46 @@ returns-then-not-names c =
     let h = c.args.head in
     let cursor = c.args.cursor in
     let fresh = c.fresh_names.ensures in
-    let law = after_names s h cursor c.requires.0 _ _ fresh c.read_names-names.ensures (c.if-not-names.true) in
+    let law = after_names s h cursor c.requires.0 _ _ fresh c.read_names-names.ensures (not-true _ c.if-not-names.true) in
     c.refused.ensures ∙ ap reading_of law
-
-pub read_offers-offers-requires : goal.read_offers-offers-requires
-read_offers-offers-requires c =
-    let s = c.args.text.now in
-    let h = c.args.head in
-    let cursor = c.args.cursor in
-    let fresh = c.fresh_names.ensures in
-    let good = c.if-not-names.false in
-    let stands = names_stand s h cursor c.requires.0 _ _ fresh c.read_names-names.ensures good in
-    let empty = c.fresh_offers.ensures in
-    (subst (StandsIn s) (sym empty.there) stands, c.requires.0, empty.good)
 
 pub returns-then-not-offers : goal.returns-then-not-offers
 returns-then-not-offers c =
     let fresh = c.fresh_names.ensures in
-    let good = c.if-not-names.false in
+    let good = not-false _ c.if-not-names.false in
     let law = after_offers c.args.text.now c.args.head c.args.cursor c.requires.0 _ _ fresh c.read_names-names.ensures good
-    _ _ c.fresh_offers.ensures c.read_offers-offers.ensures (c.if-not-offers.true) in
+    _ _ c.fresh_offers.ensures c.read_offers-offers.ensures (not-true _ c.if-not-offers.true) in
     c.refused-then-not-offers.ensures ∙ ap reading_of law
-
-pub read_labels-labels-requires : goal.read_labels-labels-requires
-read_labels-labels-requires c =
-    let s = c.args.text.now in
-    let fresh = c.fresh_names.ensures in
-    let good = c.if-not-names.false in
-    let stands = offers_stand s c.args.head c.args.cursor c.requires.0 _ _ fresh c.read_names-names.ensures good
-    _ _ c.fresh_offers.ensures c.read_offers-offers.ensures (c.if-not-offers.false) in
-    let none = c.fresh_labels.ensures in (
-      subst (StandsIn s) (sym none.there) stands,
-      c.requires.0,
-      record { good = none.good; there = refl; least = none.least; none = none.none; labels = none.labels },
-    )
 
 pub returns-then-not-labels : goal.returns-then-not-labels
 returns-then-not-labels c =
     let fresh = c.fresh_names.ensures in
-    let good = c.if-not-names.false in
-    let offered = c.if-not-offers.false in
+    let good = not-false _ c.if-not-names.false in
+    let offered = not-false _ c.if-not-offers.false in
     let law = after_labels c.args.text.now c.args.head c.args.cursor c.requires.0 _ _ fresh c.read_names-names.ensures good
     _ _ c.fresh_offers.ensures c.read_offers-offers.ensures offered
-    _ _ c.fresh_labels.ensures c.read_labels-labels.ensures (c.if-not-labels.true) in
+    _ _ c.fresh_labels.ensures c.read_labels-labels.ensures (not-true _ c.if-not-labels.true) in
     c.refused-then-not-labels.ensures ∙ ap reading_of law
-
-pub read_node-state-requires : goal.read_node-state-requires
-read_node-state-requires c =
-    let s = c.args.text.now in
-    let fresh = c.fresh_names.ensures in
-    let good = c.if-not-names.false in
-    let offered = c.if-not-offers.false in
-    let stands = labels_stand s c.args.head c.args.cursor c.requires.0 _ _ fresh c.read_names-names.ensures good
-    _ _ c.fresh_offers.ensures c.read_offers-offers.ensures offered
-    _ _ c.fresh_labels.ensures c.read_labels-labels.ensures (c.if-not-labels.false) in
-    subst (StandsIn s) (sym c.fresh_state.ensures.there) stands
 
 pub returns-then-not-state : goal.returns-then-not-state
 returns-then-not-state c =
     let fresh = c.fresh_names.ensures in
-    let good = c.if-not-names.false in
-    let offered = c.if-not-offers.false in
-    let labelled = c.if-not-labels.false in
+    let good = not-false _ c.if-not-names.false in
+    let offered = not-false _ c.if-not-offers.false in
+    let labelled = not-false _ c.if-not-labels.false in
     let law = after_tree c.args.text.now c.args.head c.args.cursor c.requires.0 _ _ fresh c.read_names-names.ensures good
     _ _ c.fresh_offers.ensures c.read_offers-offers.ensures offered
     _ _ c.fresh_labels.ensures c.read_labels-labels.ensures labelled
-    _ _ c.fresh_state.ensures c.read_node-state.ensures (c.if-not-state.true) in
+    _ _ c.fresh_state.ensures c.read_node-state.ensures (not-true _ c.if-not-state.true) in
     c.refused-then-not-state.ensures ∙ ap reading_of law
 
 pub returns-then-end-text : goal.returns-then-end-text
 returns-then-end-text c =
     let fresh = c.fresh_names.ensures in
-    let good = c.if-not-names.false in
-    let offered = c.if-not-offers.false in
-    let labelled = c.if-not-labels.false in
-    let whole = c.if-not-state.false in
+    let good = not-false _ c.if-not-names.false in
+    let offered = not-false _ c.if-not-offers.false in
+    let labelled = not-false _ c.if-not-labels.false in
+    let whole = not-false _ c.if-not-state.false in
     let law = after_more c.args.text.now c.args.head c.args.cursor c.requires.0 _ _ fresh c.read_names-names.ensures good
     _ _ c.fresh_offers.ensures c.read_offers-offers.ensures offered
     _ _ c.fresh_labels.ensures c.read_labels-labels.ensures labelled
@@ -105,10 +60,10 @@ returns-then-end-text c =
 pub returns : goal.returns
 returns c =
     let fresh = c.fresh_names.ensures in
-    let good = c.if-not-names.false in
-    let offered = c.if-not-offers.false in
-    let labelled = c.if-not-labels.false in
-    let whole = c.if-not-state.false in
+    let good = not-false _ c.if-not-names.false in
+    let offered = not-false _ c.if-not-offers.false in
+    let labelled = not-false _ c.if-not-labels.false in
+    let whole = not-false _ c.if-not-state.false in
     let names = c.read_names-names.result.names in
     let offers = c.read_offers-offers.result.row in
     let labels = c.read_labels-labels.result in

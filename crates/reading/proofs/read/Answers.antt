@@ -1,7 +1,6 @@
 -- `read`: each return is one law over what the first line said. Assumes nothing.
 use mathlib.Core.Path.{sym, ap, ◌∙◌}
 use native.Mathlib.Omega.{arith}
-use borrow.Author.Rules.{rules}
 use Rattle.reading.specs.Plan.{reading_of, refused}
 use Rattle.reading.proofs.Whole.{text_wrong, text_short, text_refused, text_head, text_read}
 use Rattle.reading.proofs.read.Goals as goal

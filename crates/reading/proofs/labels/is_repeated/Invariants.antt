@@ -1,11 +1,8 @@
 -- `is_repeated`: what is left of the labels before decides as all of them do. Assumes nothing.
 use Prim.Native.Nat.{◌-◌, ◌≤◌}
-use mathlib.Core.Path.{◌≡◌, refl, sym, ◌∙◌}
-use native.Mathlib.Omega.{arith}
+use mathlib.Core.Path.{◌≡◌}
 use lib.ListN.{take, drop}
-use lib.Seq.{length-take-le}
 use Rattle.reading.specs.Plan.{is_repeated}
-use Rattle.reading.proofs.Repeating.{held_sized, held_repeats, held_on, repeats_end}
 use Rattle.reading.proofs.labels.is_repeated.Given as goal
 
 abbrev pub invariant-loop-i : goal.invariant-loop-i

@@ -1,16 +1,11 @@
 -- `read_labels`: the labels so far and the lines that are left are the outcome; what is left of the text falls, by a line at least. Each return is
 -- one law over what the calls gave.
 -- Assumes nothing.
-use Prim.Native.Nat.{◌+◌, ◌-◌}
+use Prim.Native.Nat.{◌+◌}
 use mathlib.Core.Path.{refl, sym, ap}
-use mathlib.Core.List.{[]}
 use native.Mathlib.Omega.{arith}
-use borrow.Author.Rules.{rules}
-use lib.ListN.{length}
 use lib.Seq.{length-take-le}
-use Rattle.text.specs.Positions.{rest_at}
-use Rattle.reading.specs.Plan.{read_labels}
-use Rattle.reading.proofs.Labelling.{SoFar, so_far_none, labels_long, labels_sized, labels_refused, labels_done, label_there, label_sized, label_below, room_for_label, label_repeated, labels_on_lem}
+use Rattle.reading.proofs.Labelling.{so_far_none, labels_long, labels_sized, labels_refused, labels_done, label_there, label_sized, label_below, room_for_label, label_repeated, labels_on_lem}
 use Rattle.reading.proofs.labels.read_labels.Goals as goal
 
 pub loop-number-init : goal.loop-number-init
@@ -48,30 +43,14 @@ pub past-next-requires : goal.past-next-requires
 past-next-requires c =
     (c.loop-number.invariant.stands, (label_there _ _ _ _ c.loop-number.invariant _ c.next_label-line.ensures c.in-Found.is).ended)
 
-pub offset_bounds-state-count : goal.offset_bounds-state-count
-offset_bounds-state-count c =
-    let room = room_for_label _ _ _ _ c.loop-number.invariant _ c.next_label-line.ensures c.in-Found.is c.requires.1 in
-    omega arith
-
 pub bounds-state-count : goal.bounds-state-count
 bounds-state-count c =
     room_for_label _ _ _ _ c.loop-number.invariant _ c.next_label-line.ensures c.in-Found.is c.requires.1
-
-pub overflow_add-state : goal.overflow_add-state
-overflow_add-state c =
-    let room = room_for_label _ _ _ _ c.loop-number.invariant _ c.next_label-line.ensures c.in-Found.is c.requires.1 in
-    omega arith
 
 pub overflow_add-state-in-Found : goal.overflow_add-state-in-Found
 overflow_add-state-in-Found c =
     let below = label_below _ _ _ _ c.loop-number.invariant _ c.next_label-line.ensures c.in-Found.is c.requires.1 in
     let place = c.place_among.ensures in
-    omega arith
-
-pub loop-number-smaller : goal.loop-number-smaller
-loop-number-smaller c =
-    let ended = (label_there _ _ _ _ c.loop-number.invariant _ c.next_label-line.ensures c.in-Found.is).ended in
-    let on = c.past-next.ensures.0.at in
     omega arith
 
 pub loop-number-preserved : goal.loop-number-preserved

@@ -1,16 +1,12 @@
 -- `read_labels`: the labels so far and the lines that are left are the outcome; what is left of the text falls, by a line at least. Each return is
 -- one law over what the calls gave.
 -- Assumes nothing.
-use Prim.Native.Nat.{◌+◌, ◌-◌}
-use mathlib.Core.Path.{refl, sym, ap}
+use Prim.Native.Nat.{◌-◌}
 use mathlib.Core.List.{[]}
-use native.Mathlib.Omega.{arith}
-use borrow.Author.Rules.{rules}
 use lib.ListN.{length}
-use lib.Seq.{length-take-le}
 use Rattle.text.specs.Positions.{rest_at}
 use Rattle.reading.specs.Plan.{read_labels}
-use Rattle.reading.proofs.Labelling.{SoFar, so_far_none, labels_long, labels_sized, labels_refused, labels_done, label_there, label_sized, label_below, room_for_label, label_repeated, labels_on_lem}
+use Rattle.reading.proofs.Labelling.{SoFar}
 use Rattle.reading.proofs.labels.read_labels.Given as goal
 
 abbrev pub invariant-loop-number : goal.invariant-loop-number

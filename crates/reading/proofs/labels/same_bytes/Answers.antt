@@ -1,17 +1,11 @@
 -- `same_bytes`: what is left to compare decides as the whole does. Assumes nothing.
-use Prim.Native.Nat.{◌-◌, ◌≤◌}
-use mathlib.Core.Path.{◌≡◌, refl, ◌∙◌}
+use mathlib.Core.Path.{◌∙◌}
 use native.Mathlib.Omega.{arith}
-use lib.ListN.{length, drop}
-use Rattle.reading.specs.Plan.{same_bytes}
 use Rattle.reading.proofs.Repeating.{lengths_differ, bytes_differ, bytes_on, bytes_end}
 use Rattle.reading.proofs.labels.same_bytes.Goals as goal
 
 pub returns-then-a-b : goal.returns-then-a-b
 returns-then-a-b c = lengths_differ _ _ c.if-a-b.true
-
-pub loop-i-init : goal.loop-i-init
-loop-i-init c = (omega arith, c.if-a-b.false, refl)
 
 pub returns-then-a-i : goal.returns-then-a-i
 returns-then-a-i c =

@@ -1,10 +1,8 @@
 -- `same_bytes`: what is left to compare decides as the whole does. Assumes nothing.
 use Prim.Native.Nat.{◌-◌, ◌≤◌}
-use mathlib.Core.Path.{◌≡◌, refl, ◌∙◌}
-use native.Mathlib.Omega.{arith}
+use mathlib.Core.Path.{◌≡◌}
 use lib.ListN.{length, drop}
 use Rattle.reading.specs.Plan.{same_bytes}
-use Rattle.reading.proofs.Repeating.{lengths_differ, bytes_differ, bytes_on, bytes_end}
 use Rattle.reading.proofs.labels.same_bytes.Given as goal
 
 abbrev pub invariant-loop-i : goal.invariant-loop-i
