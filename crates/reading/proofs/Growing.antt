@@ -114,10 +114,46 @@ module _ (s : List ℕ) (nodes : List Slot) (n : ℕ) (branch : Reader) (st r : 
   grow_grows Replication stored b = one_on Replication replication (λ p. refl) stored b
   grow_grows (Bracket l) stored b = one_on (Bracket l) (bracket l) (λ p. refl) stored b
 
--- ---- a test has one answer
+-- ---- the branches, by their number and what the first gave
 
 pub true_not_false : (b : Bool) → b ≡ true → b ≡ false → ⊥
 true_not_false b t f = let z : ◌≡◌ {A = Bool} true false = sym t ∙ f in let w : ◌≡◌ {A = ℕ} 0 1 = cc in omega arith
+
+-- a good state stands in the text
+pub grows_stands : (s : List ℕ) (before : List Slot) (n : ℕ) (o : Outcome Grown) (r : State) → Grows s before n o r → r.good ≡ true → StandsIn s r.cursor
+grows_stands s before n (refused f) r g e = absurd (true_not_false r.good e g.0)
+grows_stands s before n (read g) r w e = w.stands
+
+module _ (s : List ℕ) (st : State) (branch : Reader) where
+  pub branches_none : (many : ℕ) → many ≡ 0 → Branches many s st branch st
+  branches_none zero e = refl
+  branches_none (suc zero) e = absurd (omega arith)
+  branches_none (suc (suc many)) e = absurd (omega arith)
+
+  module _ (first : State) (g : Grows s st.nodes st.count (branch st.count (place_at s st.cursor)) first) where
+    pub branches_one : (many : ℕ) → many ≡ 1 → Branches many s st branch first
+    branches_one zero e = absurd (omega arith)
+    branches_one (suc zero) e = g
+    branches_one (suc (suc many)) e = absurd (omega arith)
+
+    pub branches_stop : (many : ℕ) → (many ≡ 0 → ⊥) → (many ≡ 1 → ⊥) → first.good ≡ false → Branches many s st branch first
+    branches_stop zero a b e = absurd (a refl)
+    branches_stop (suc zero) a b e = absurd (b refl)
+    branches_stop (suc (suc many)) a b e = go (branch st.count (place_at s st.cursor)) g
+      where
+        go : (o : Outcome Grown) → Grows s st.nodes st.count o first → GrowsOn s st.nodes st.count branch o first
+        go (refused f) g = g
+        go (read g) w = absurd (true_not_false first.good w.good e)
+
+    pub branches_on : (many : ℕ) → (many ≡ 0 → ⊥) → (many ≡ 1 → ⊥) → first.good ≡ true → (r : State)
+        → Grows s first.nodes first.count (branch first.count (place_at s first.cursor)) r → Branches many s st branch r
+    branches_on zero a b e r w = absurd (a refl)
+    branches_on (suc zero) a b e r w = absurd (b refl)
+    branches_on (suc (suc many)) a b e r w = go (branch st.count (place_at s st.cursor)) g
+      where
+        go : (o : Outcome Grown) → Grows s st.nodes st.count o first → GrowsOn s st.nodes st.count branch o r
+        go (refused f) g = absurd (true_not_false first.good e g.0)
+        go (read g) v = rw (← v.nodes, ← v.count, v.place) w
 
 -- ---- what `read_node` returns: `r` is the result, and the rest what its calls gave
 

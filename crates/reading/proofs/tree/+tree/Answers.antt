@@ -2,8 +2,35 @@
 -- Each return is one law over what the calls gave. Assumes nothing.
 use mathlib.Core.Path.{refl}
 use native.Mathlib.Omega.{arith}
-use Rattle.reading.proofs.Growing.{node_refused, node_found, node_grown}
+use Rattle.reading.specs.Plan.{read_tree}
+use Rattle.lines.specs.Values.{meaning_in}
+use Rattle.reading.proofs.Growing.{branches_none, branches_one, branches_stop, branches_on, node_refused, node_found, node_grown}
 use Rattle.reading.proofs.tree.+tree.Goals as goal
+
+pub read_branches-returns-then-many-eq0 : goal.read_branches-returns-then-many-eq0
+read_branches-returns-then-many-eq0 t c =
+    let s = c.args.text.now in
+    let branch = read_tree c.args.depth c.args.head (meaning_in c.args.scope) in
+    branches_none s c.args.state branch _ c.if-many-eq0.true
+
+pub read_branches-returns-then-many-eq1 : goal.read_branches-returns-then-many-eq1
+read_branches-returns-then-many-eq1 t c =
+    let s = c.args.text.now in
+    let branch = read_tree c.args.depth c.args.head (meaning_in c.args.scope) in
+    branches_one s c.args.state branch _ c.read_node-first.ensures _ c.if-many-eq1.true
+
+pub read_branches-returns-then-first : goal.read_branches-returns-then-first
+read_branches-returns-then-first t c =
+    let s = c.args.text.now in
+    let branch = read_tree c.args.depth c.args.head (meaning_in c.args.scope) in
+    branches_on s c.args.state branch _ c.read_node-first.ensures _ c.if-many-eq0.false c.if-many-eq1.false
+    c.if-first.true _ c.read_node.ensures
+
+pub read_branches-returns-else-first : goal.read_branches-returns-else-first
+read_branches-returns-else-first t c =
+    let s = c.args.text.now in
+    let branch = read_tree c.args.depth c.args.head (meaning_in c.args.scope) in
+    branches_stop s c.args.state branch _ c.read_node-first.ensures _ c.if-many-eq0.false c.if-many-eq1.false c.if-first.false
 
 pub read_node-past-next-requires : goal.read_node-past-next-requires
 read_node-past-next-requires t c =
