@@ -1,7 +1,6 @@
 -- Where `low` is lower what both sets share goes down, and elsewhere nothing does. Assumes nothing.
 use mathlib.Core.Path.{subst⁻¹}
 use Rattle.sets.specs.Set.{Has, Members}
-use borrow.Author.Rules.{rules}
 use Rattle.judging.specs.Verdict.{Lower}
 use Rattle.judging.proofs.Places.{lower_members, none_members}
 use Rattle.judging.proofs.going_down.Goals as goal

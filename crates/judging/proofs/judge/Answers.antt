@@ -1,6 +1,5 @@
 -- What solving answers is handed on, and by its refusal's number there is no verdict or the one on its sets. Assumes nothing.
 use mathlib.Core.Path.{refl}
-use borrow.Author.Rules.{rules}
 use Rattle.judging.proofs.judge.Goals as goal
 
 pub returns-then-refusal-ne0 : goal.returns-then-refusal-ne0

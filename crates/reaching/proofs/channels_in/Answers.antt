@@ -1,8 +1,8 @@
 -- `channels_in`: the places passed have their first channels. Assumes nothing.
-use Prim.Native.Nat.{ℕ, ◌-◌, ◌/◌, ◌%◌, ◌≤◌, ◌<◌}
-use mathlib.Core.Path.{◌≡◌, ◌∙◌}
+use Prim.Native.Nat.{ℕ, ◌/◌, ◌%◌, ◌<◌}
+use mathlib.Core.Path.{◌∙◌}
 use native.Mathlib.Omega.{arith}
-use lib.ListN.{length, get_or, length-set, length-replicate}
+use lib.ListN.{length-set, length-replicate}
 use Rattle.limits.specs.Limits.{most_channels, levels, level_sets}
 use Rattle.limits.proofs.Places.{level_of, channel_of}
 use Rattle.reaching.specs.inner.Working.{FirstOn}

@@ -1,12 +1,9 @@
 -- `channels_in`: the places passed have their first channels. Assumes nothing.
 use Prim.Native.Nat.{ℕ, ◌-◌, ◌/◌, ◌%◌, ◌≤◌, ◌<◌}
-use mathlib.Core.Path.{◌≡◌, ◌∙◌}
-use native.Mathlib.Omega.{arith}
-use lib.ListN.{length, get_or, length-set, length-replicate}
-use Rattle.limits.specs.Limits.{most_channels, levels, level_sets}
-use Rattle.limits.proofs.Places.{level_of, channel_of}
+use mathlib.Core.Path.{◌≡◌}
+use lib.ListN.{length, get_or}
+use Rattle.limits.specs.Limits.{most_channels, level_sets}
 use Rattle.reaching.specs.inner.Working.{FirstOn}
-use Rattle.reaching.proofs.Loops.{stored_more}
 use Rattle.reaching.proofs.channels_in.Given as goal
 
 abbrev pub invariant-loop-place : goal.invariant-loop-place

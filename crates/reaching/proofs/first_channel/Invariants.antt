@@ -1,12 +1,7 @@
 -- `first_channel`: the handle stands at none of the channels passed. Assumes nothing.
 use Prim.Native.Nat.{ℕ, ◌-◌, ◌≤◌, ◌<◌}
-use borrow.Author.Count.{below_more}
-use native.Mathlib.Omega.{arith}
-use Rattle.limits.specs.Limits.{most_channels, levels}
-use Rattle.limits.proofs.Places.{place_below}
-use Rattle.sets.specs.Set.{Decides}
+use Rattle.limits.specs.Limits.{most_channels}
 use Rattle.reaching.specs.inner.Working.{On}
-use Rattle.reaching.proofs.Loops.{told_on, first_found, first_none}
 use Rattle.reaching.proofs.first_channel.Given as goal
 
 abbrev pub invariant-loop-channel : goal.invariant-loop-channel

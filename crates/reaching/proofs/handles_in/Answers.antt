@@ -1,14 +1,10 @@
 -- `handles_in`: the levels passed have the handles of their in sets. Assumes nothing.
-use Prim.Native.Nat.{ℕ, ◌-◌, ◌≤◌, ◌<◌}
-use mathlib.Core.Path.{◌≡◌, ◌∙◌}
+use mathlib.Core.Path.{◌∙◌}
 use native.Mathlib.Omega.{arith}
-use lib.ListN.{length, length-set, length-replicate}
+use lib.ListN.{length-set, length-replicate}
 use Rattle.limits.specs.Limits.{most_channels, levels}
 use Rattle.limits.proofs.Places.{below_level}
-use Rattle.sets.specs.Set.{Set, Members}
-use Rattle.sets.specs.Rows.{set_at}
-use borrow.Author.Rules.{rules}
-use Rattle.reaching.specs.inner.Working.{On}
+use Rattle.sets.specs.Set.{Set}
 use Rattle.reaching.proofs.Loops.{handles_more, level_members}
 use Rattle.reaching.proofs.handles_in.Goals as goal
 

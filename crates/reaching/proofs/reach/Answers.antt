@@ -1,6 +1,5 @@
 -- `reach`: read off the in sets of what `solve` answers. Assumes nothing.
 use mathlib.Core.Path.{refl}
-use borrow.Author.Rules.{rules}
 use Rattle.reaching.proofs.Loops.{reach_of}
 use Rattle.reaching.proofs.reach.Goals as goal
 
