@@ -1,6 +1,5 @@
 -- `whole`: a blank array, which holds any reach sheet, with the sheet at its start. Assumes nothing.
 use native.Mathlib.Omega.{arith}
-use borrow.Author.Rules.{rules}
 use Rattle.sheet.proofs.Writing.{counted}
 use Rattle.reach_sheet.proofs.Reached.{reach_most, reach_whole}
 use Rattle.reach_sheet.proofs.whole.Goals as goal

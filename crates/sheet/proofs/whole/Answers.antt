@@ -1,5 +1,4 @@
 -- `whole`: a blank array of 8,128 bytes is written to, which holds any sheet. Assumes nothing.
-use borrow.Author.Rules.{rules}
 use Rattle.sheet.proofs.Sheets.{sheet_most}
 use Rattle.sheet.proofs.Writing.{whole_is, counted}
 use Rattle.sheet.proofs.whole.Goals as goal

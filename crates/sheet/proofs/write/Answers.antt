@@ -1,5 +1,4 @@
 -- `write`: the sheet of the text is that of the answer which `judge` gives; the two returns are the two ways of writing it. Assumes nothing.
-use borrow.Author.Rules.{rules}
 use Rattle.sheet.proofs.Sheets.{short_writes, whole_writes}
 use Rattle.sheet.proofs.write.Goals as goal
 

@@ -1,6 +1,5 @@
 -- `put_words`: a phrase, or the line of the breach with the labels that the text reads as. Assumes nothing.
 use mathlib.Core.Path.{subst}
-use borrow.Author.Rules.{rules}
 use Rattle.word_sheet.specs.inner.Working.{VerdictTwoDigits}
 use Rattle.word_sheet.proofs.Words.{read_listed, told_put, read_put}
 use Rattle.word_sheet.proofs.put_words.Goals as goal

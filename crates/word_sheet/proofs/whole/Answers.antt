@@ -1,6 +1,5 @@
 -- `whole`: a blank array, which holds any word sheet, with the sheet at its start. Assumes nothing.
 use native.Mathlib.Omega.{arith}
-use borrow.Author.Rules.{rules}
 use Rattle.sheet.proofs.Writing.{counted}
 use Rattle.word_sheet.proofs.Words.{verdict_two_digits, words_whole}
 use Rattle.word_sheet.proofs.whole.Goals as goal

@@ -1,5 +1,4 @@
 -- `write`: the whole sheet is copied. Assumes nothing.
-use borrow.Author.Rules.{rules}
 use Rattle.sheet.proofs.Writing.{copied}
 use Rattle.word_sheet.proofs.write.Goals as goal
 
