@@ -8,67 +8,78 @@ ghost use Rattle.inputs.specs.Header.{longest_text};
 ghost use Rattle.sheet.specs.Write.{Counted};
 
 use inputs::Fault;
-use libc::{STDIN_FILENO, STDOUT_FILENO};
 use sheet::Sheet;
+use std::io;
+use std::io::{Input, Print, Read};
 
 // Says which record is none, and why; the run ends there.
-fn bad_record(number: u64, reason: &[u8]) -> bool {
-    io::write_all(STDOUT_FILENO, b"bad record ");
-    io::print_decimal(STDOUT_FILENO, number);
-    io::write_all(STDOUT_FILENO, b": ");
-    io::write_all(STDOUT_FILENO, reason);
-    io::write_all(STDOUT_FILENO, b"\n");
-    false
+fn bad_record(rt: &impl Print, number: u64, reason: &str) -> io::Result<bool> {
+    println!(rt; "bad record {number}: {reason}")?;
+    Ok(false)
 }
 
 // Prints a sheet.
-fn print(sheet: Sheet)
+fn print(rt: &impl Print, sheet: Sheet) -> io::Result<()>
     requires { Counted sheet }
 {
     let bytes = sheet.bytes;
-    io::write_all(STDOUT_FILENO, &bytes[..sheet.size]);
+    rt.write_all(&bytes[..sheet.size])
 }
 
 // Reads a record's text and prints its sheets, or why it is no record; says whether to go on.
-fn answer_record(line: &[u8], text: &mut [u8], number: u64) -> bool {
-    let had = io::read_full(STDIN_FILENO, text);
+fn answer_record(
+    rt: &impl Print,
+    input: &mut impl Read,
+    line: &[u8],
+    text: &mut [u8],
+    number: u64,
+) -> io::Result<bool> {
+    let had = streams::read_full(input, text)?;
     let answer = inputs::of_record(line, &text[..had]);
     let fault = answer.fault;
     match fault {
         Fault::None => {
-            print(answer.sheet);
-            print(answer.reach);
-            print(answer.words);
-            true
+            print(rt, answer.sheet)?;
+            print(rt, answer.reach)?;
+            print(rt, answer.words)?;
+            Ok(true)
         }
-        Fault::CutShort => bad_record(number, b"it is cut short"),
+        Fault::CutShort => bad_record(rt, number, "it is cut short"),
         Fault::NoHeader => bad_record(
+            rt,
             number,
-            b"its header is not sixteen digits of 0-9 a-f and a line feed",
+            "its header is not sixteen digits of 0-9 a-f and a line feed",
         ),
-        Fault::TextTooLong => bad_record(number, b"its length is over 65,536"),
-        Fault::AllowanceTooLarge => bad_record(number, b"its allowance is over 65,535"),
+        Fault::TextTooLong => bad_record(rt, number, "its length is over 65,536"),
+        Fault::AllowanceTooLarge => bad_record(rt, number, "its allowance is over 65,535"),
     }
 }
 
 // Answers the next record, the first being number 1, with room for its text; says whether to go on.
-fn answer_next(room: &mut [u8], number: u64) -> bool
+fn answer_next(
+    rt: &impl Print,
+    input: &mut impl Read,
+    room: &mut [u8],
+    number: u64,
+) -> io::Result<bool>
     requires { longest_text ≡ length room.old }
 {
     let mut line = [0u8; 17];
-    let got = io::read_full(STDIN_FILENO, &mut line);
+    let got = streams::read_full(input, &mut line)?;
     if got == 0 {
-        return false;
+        return Ok(false);
     }
     let size = inputs::text_size(&line[..got]);
-    answer_record(&line[..got], &mut room[..size], number)
+    answer_record(rt, input, &line[..got], &mut room[..size], number)
 }
 
 // Answers record after record, up to the end of the input or to a bad one.
-fn main() {
-    let mut room = io::large_buffer();
+fn main(rt: HostRuntime) -> io::Result<()> {
+    let mut input = rt.reader();
+    let mut room = streams::large_buffer();
     let mut number: u64 = 1;
-    while number < u64::MAX && answer_next(&mut room, number) {
+    while number < u64::MAX && answer_next(&rt, &mut input, &mut room, number)? {
         number += 1;
     }
+    Ok(())
 }

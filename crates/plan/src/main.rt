@@ -2,8 +2,9 @@
 #![tactic(auto)]
 
 use inputs::Asked;
+use std::io;
 
 // Prints the sheet of the text on standard input.
-fn main() {
-    asking::answer(Asked::Flow);
+fn main(rt: HostRuntime) -> io::Result<()> {
+    asking::answer(&rt, Asked::Flow)
 }

@@ -1,6 +1,5 @@
 -- `asked_of`: by which sheet is asked for. Assumes nothing.
 use mathlib.Core.Path.{subst⁻¹}
-use borrow.Author.Rules.{rules}
 use Rattle.inputs.specs.Answers.{IsAsked}
 use Rattle.inputs.proofs.asked_of.Goals as goal
 

@@ -1,7 +1,6 @@
 -- `of_record`: by what the header says. Assumes nothing.
 use mathlib.Core.Path.{sym, ◌∙◌}
 use Rattle.inputs.proofs.Answering.{none_counted, record_answers}
-use borrow.Author.Rules.{rules}
 use Rattle.inputs.proofs.of_record.Goals as goal
 
 pub returns-in-Faulty : goal.returns-in-Faulty

@@ -2,7 +2,6 @@
 use mathlib.Core.Path.{refl, sym}
 use native.Mathlib.Omega.{arith}
 use lib.Seq.{length-take-le}
-use borrow.Author.Rules.{rules}
 use Rattle.inputs.specs.Answers.{Answered}
 use Rattle.inputs.proofs.Answering.{none_counted}
 use Rattle.inputs.proofs.of_text.Goals as goal
@@ -13,21 +12,24 @@ returns-then-text-size c =
     record { answers_header = (λ h. c.none.ensures, λ h. absurd (omega arith)); counted = none_counted _ _ c.none.ensures }
 
 pub slice_bounds-whole-end : goal.slice_bounds-whole-end
-slice_bounds-whole-end c = sym (length-take-le _ _ c.before.if1.false)
+slice_bounds-whole-end c = sym (length-take-le _ _ c.if-text-size.false)
 
 pub slice_bounds-whole-end-2 : goal.slice_bounds-whole-end-2
-slice_bounds-whole-end-2 c = sym (length-take-le _ _ c.before.before.before.if1.false)
+slice_bounds-whole-end-2 c = sym (length-take-le _ _ c.if-text-size.false)
 
 pub slice_bounds-whole-end-3 : goal.slice_bounds-whole-end-3
-slice_bounds-whole-end-3 c = sym (length-take-le _ _ c.before.before.before.before.before.if1.false)
+slice_bounds-whole-end-3 c = sym (length-take-le _ _ c.if-text-size.false)
 
 pub returns : goal.returns
 returns c =
-    let long = first.before.before.if1.false in
+    let long = c.if-text-size.false in
     let three : Answered _ _ _ = record {
       fault = refl;
-      sheet = first.whole.ensures.0;
-      reach = reach.whole2.ensures.0;
+      sheet = c.whole.ensures.whole;
+      reach = c.whole-2.ensures.whole;
       words = c.whole-3.ensures.whole;
     } in
-    record { answers_header = (λ h. absurd (omega arith), λ h. three); counted = (first.whole.ensures.1, reach.whole2.ensures.1, c.whole-3.ensures.counted) }
+    record {
+      answers_header = (λ h. absurd (omega arith), λ h. three);
+      counted = (c.whole.ensures.counted, c.whole-2.ensures.counted, c.whole-3.ensures.counted);
+    }

@@ -4,7 +4,6 @@ use native.Mathlib.Omega.{arith}
 use Prim.Native.Nat.{◌≤◌}
 use Rattle.inputs.specs.Header.{longest_text, size_in}
 use Rattle.inputs.proofs.Headers.{size_fits}
-use borrow.Author.Rules.{rules}
 use Rattle.inputs.proofs.text_size.Goals as goal
 
 pub returns-in-Faulty : goal.returns-in-Faulty

@@ -1,7 +1,6 @@
 -- `header_for`: each return is the definition's answer under the tests that led to it. Assumes nothing.
 use Rattle.inputs.specs.Header.{header_for}
 use Rattle.text.proofs.Tests.{tests}
-use borrow.Author.Rules.{rules}
 use Rattle.inputs.proofs.header.header_for.Goals as goal
 
 pub returns-then-size-eq-NO_NUMBER : goal.returns-then-size-eq-NO_NUMBER

@@ -5,7 +5,6 @@ use borrow.Author.Tests.{eq-eqb, ne_eqb}
 use lib.ListN.{length-take}
 use lib.Seq.{length-take-le}
 use Rattle.inputs.specs.Header.{header_for, header_of}
-use borrow.Author.Rules.{rules}
 use Rattle.inputs.proofs.header.header_of.Goals as goal
 
 pub returns-then-line-ne17 : goal.returns-then-line-ne17
@@ -26,4 +25,4 @@ pub returns : goal.returns
 unfolding header_of
 returns c =
     let numbers = ap₂ header_for c.number-size.ensures c.number-allowance.ensures in
-    simp (eq-eqb _ _ ended.before.before.if1.false, eq-eqb _ _ ended.if2.false) (c.header_for.ensures ∙ numbers)
+    simp (eq-eqb _ _ c.if-line-ne17.false, eq-eqb _ _ c.if-line-ne-LINE_FEED.false) (c.header_for.ensures ∙ numbers)

@@ -1,16 +1,8 @@
 -- `number`: what the digits so far make, with those from i on, is the whole. Assumes nothing.
-use Prim.Native.Nat.{◌-◌, ◌*◌, ◌<◌, ◌^◌}
-use mathlib.Core.Path.{◌≡◌, refl, sym, ◌∙◌}
+use mathlib.Core.Path.{refl, sym, ◌∙◌}
 use native.Mathlib.Omega.{arith}
-use borrow.Author.Rules.{rules}
-use lib.ListN.{length, drop}
-use Rattle.inputs.specs.Header.{number_from}
 use Rattle.inputs.proofs.Numbers.{number_on, number_none, number_end, below_more, below_most}
 use Rattle.inputs.proofs.header.number.Goals as goal
-
--- so far there is no overflow in sight
-small : (c : tie.In-loop invariant-loop decreases-loop) → c.before.loop.n < 2 ^ 32
-small c = below_most c.before.loop.n c.before.loop.i c.before.loop.invariant.1 (omega arith)
 
 pub loop-i-init : goal.loop-i-init
 loop-i-init c = (refl, omega arith)
@@ -22,10 +14,14 @@ returns-then-digit-ge16 c =
     sym (c.loop-i.invariant.0 ∙ number_none digits c.loop-i.i c.loop-i.n c.loop-i-test.true large)
 
 pub overflow_mul-n : goal.overflow_mul-n
-overflow_mul-n c = omega (arith, small c)
+overflow_mul-n c =
+    let small = below_most c.loop-i.n c.loop-i.i c.loop-i.invariant.1 (omega arith) in
+    omega (arith, small)
 
 pub overflow_add-n : goal.overflow_add-n
-overflow_add-n c = omega (arith, small c)
+overflow_add-n c =
+    let small = below_most c.loop-i.n c.loop-i.i c.loop-i.invariant.1 (omega arith) in
+    omega (arith, small)
 
 pub loop-i-preserved : goal.loop-i-preserved
 loop-i-preserved c =

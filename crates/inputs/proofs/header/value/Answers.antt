@@ -1,7 +1,6 @@
 -- `value`: each return is the definition's answer under the tests that led to it. Assumes nothing.
 use Rattle.inputs.specs.Header.{digit_value}
 use Rattle.text.proofs.Tests.{tests}
-use borrow.Author.Rules.{rules}
 use Rattle.inputs.proofs.header.value.Goals as goal
 
 pub returns-then-c-lt48 : goal.returns-then-c-lt48

@@ -1,0 +1,2 @@
+-- The law of what is printed.
+mod Printing

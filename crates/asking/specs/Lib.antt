@@ -1,0 +1,2 @@
+-- What is read and printed.
+pub mod Prints
