@@ -1,9 +1,8 @@
 -- What is printed is the sheet of the whole input: the front that was kept is all that decides it, and the front part of the array that is
 -- written is the sheet. And an input of which a part was read is read to its end with the rest. Assumes nothing.
-use Rattle.std.proofs.Common.{◌≡◌, ℕ, ◌+◌, ◌<◌, ◌≤◌, List, ◌++◌, [], arith, length, take, sym, ap, ap₂, ◌∙◌, subst, append-nil, length-append, length-take-le, take_all}
+use Rattle.std.proofs.Common.{◌≡◌, ℕ, ◌<◌, ◌≤◌, List, ◌++◌, [], arith, length, take, ap, ap₂, ◌∙◌, subst, append-nil, length-append, length-take-le, take_all}
 use Rattle.std.specs.Prelude.{Option, None, Some, Result, Ok, Err, OnOk}
 use Rattle.std.specs.Io.KnownBytes.{Consumes, Appends, IsAtEnd}
-use Rattle.std.proofs.lemmas.List.{take-append-le}
 use Rattle.std.proofs.Math.Seq.{take-append_seam}
 use Rattle.std.proofs.Math.Decide.{dec_lt}
 use Rattle.lines.specs.Values.{padded}
@@ -11,7 +10,7 @@ use Rattle.sheet.specs.declared.Sheet.{Sheet}
 use Rattle.sheet.specs.Write.{Fills}
 use Rattle.inputs.specs.declared.Asked.{Asked}
 use Rattle.inputs.specs.Answers.{AnswersInput}
-use Rattle.asking.specs.Prints.{ReadsToEnd, Prints, PrintsSheet}
+use Rattle.asking.specs.Prints.{ReadsToEnd, PrintsSheet}
 
 -- the front part of a sheet's array, of the sheet's size, is the sheet
 written : (sheet : List ℕ) (r : Sheet) → Fills sheet r → take r.size r.bytes ≡ sheet

@@ -1,11 +1,8 @@
 -- `number`: what the digits so far make, with those from i on, is the whole. Assumes nothing.
 use Prim.Native.Nat.{◌-◌, ◌*◌, ◌<◌, ◌^◌}
-use mathlib.Core.Path.{◌≡◌, refl, sym, ◌∙◌}
-use native.Mathlib.Omega.{arith}
-use borrow.Author.Rules.{rules}
+use mathlib.Core.Path.{◌≡◌}
 use lib.ListN.{length, drop}
 use Rattle.inputs.specs.Header.{number_from}
-use Rattle.inputs.proofs.Numbers.{number_on, number_none, number_end, below_more, below_most}
 use Rattle.inputs.proofs.header.number.Given as goal
 
 abbrev pub invariant-loop-i : goal.invariant-loop-i
