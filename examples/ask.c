@@ -1,6 +1,6 @@
 /* Asks one plan and prints one line: its verdict, or why there is none.
 
-     cc -std=c11 -O2 -o ask examples/ask.c target/staticlib/libgateway.a
+     cc -std=c11 -O2 -o ask examples/ask.c crates/gateway/out/libgateway.a
      ./ask [--words] [FILE]     FILE is a plan's text; `-` or no FILE reads standard input
 
    With --words the line is the word sheet, which has the plan's own labels. Exit status, as that of ./sheet: 0 clear, 1 a breach, 2 refused,

@@ -1,7 +1,7 @@
 /* A gateway in C: prints the sheet, or the reach sheet or the word sheet, of the plan on standard input, after trying buffers of many lengths, with
    bytes around them that have to stay.
 
-     cc -std=c11 -O2 -o gateway examples/gateway.c target/staticlib/libgateway.a
+     cc -std=c11 -O2 -o gateway examples/gateway.c crates/gateway/out/libgateway.a
      ./gateway [reach | words] [ALLOWANCE]     ALLOWANCE is the rounds allowed, 0 to 65,535; without it, as many as any plan needs
 
    Exit status 0 if each try was as the header says, 1 if not, 2 if the words are others. */

@@ -1,7 +1,7 @@
 /* The answer sheet, the reach sheet and the word sheet of a routing plan, for gateways in C and C++. Link libgateway.a, which
-   `rt staticlib gateway` writes to target/staticlib/:
+   `rt lib`, run in crates/gateway, writes to crates/gateway/out/:
 
-       cc -std=c11 -O2 -o ask examples/ask.c target/staticlib/libgateway.a
+       cc -std=c11 -O2 -o ask examples/ask.c crates/gateway/out/libgateway.a
 
    ask.c asks one plan and prints its verdict; threads.c asks many at once, and gateway.c tries buffers of all lengths, both for any sheet. */
 #ifndef HJALTROPA_GATEWAY_H

@@ -3,7 +3,7 @@
 //! around them that have to stay.
 //!
 //!     rustc --edition 2021 -O -o gateway examples/gateway.rs \
-//!         -C link-arg=target/staticlib/libgateway.a
+//!         -C link-arg=crates/gateway/out/libgateway.a
 //!     ./gateway [reach | words] [ALLOWANCE]
 //!
 //! The allowance of rounds is 0 to 65,535; without it, as many are allowed as

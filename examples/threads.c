@@ -1,6 +1,6 @@
 /* Asks the plans in files, all at once, and prints their sheets, or their reach sheets or word sheets, in the files' order.
 
-     cc -std=c11 -O2 -pthread -o threads examples/threads.c target/staticlib/libgateway.a
+     cc -std=c11 -O2 -pthread -o threads examples/threads.c crates/gateway/out/libgateway.a
      ./threads [reach | words] FILE..
 
    Each plan is asked in a thread that has HJALTROPA_STACK bytes of stack and below them a page that nobody may touch, again and again until all

@@ -2,8 +2,8 @@
 # Builds the callers of examples/ over the proved library and runs them on plans of all kinds, within several allowances of rounds. The sheets
 # that they have to print are those of the second program, and those that are stored; the reach sheets are read off these, and the word sheets are
 # the second program's. Run from the root.
-# The library is for x86-64 programs. On another processor the callers in C are tried if there is a compiler for x86-64, apart from the one with
-# threads, and those in other languages are not; the last line says what was tried. A compiler that is there has to work.
+# The library is for x86-64 programs, and so are the callers. C++ is tried if there is a compiler for it; the last line says what was tried. A compiler
+# that is there has to work.
 set -eu
 # Cargo's own folders are meant below, whatever the caller's settings are: a second program of another day must not be asked.
 unset CARGO_TARGET_DIR CARGO_BUILD_TARGET_DIR CARGO_BUILD_TARGET
@@ -46,10 +46,10 @@ defined() {
 rounds=$(sed -n 's/^pub const CEILING: u16 = \([0-9]*\);$/\1/p' crates/solving/src/lib.rt)
 same 'the rounds in C' "$(declared ROUNDS)" "$rounds"
 same 'the rounds in Rust' "$(declared_in_rust ROUNDS)" "$rounds"
-same 'the longest sheet in C' "$(declared SHEET)" "$(defined longestSheet sheet/specs/Write.antt)"
-same 'the longest sheet in Rust' "$(declared_in_rust SHEET)" "$(defined longestSheet sheet/specs/Write.antt)"
-same 'the longest word sheet in C' "$(declared WORDS)" "$(defined longestWords word_sheet/specs/WordSheet.antt)"
-same 'the longest word sheet in Rust' "$(declared_in_rust WORDS)" "$(defined longestWords word_sheet/specs/WordSheet.antt)"
+same 'the longest sheet in C' "$(declared SHEET)" "$(defined longest_sheet sheet/specs/Write.antt)"
+same 'the longest sheet in Rust' "$(declared_in_rust SHEET)" "$(defined longest_sheet sheet/specs/Write.antt)"
+same 'the longest word sheet in C' "$(declared WORDS)" "$(defined longest_words word_sheet/specs/WordSheet.antt)"
+same 'the longest word sheet in Rust' "$(declared_in_rust WORDS)" "$(defined longest_words word_sheet/specs/WordSheet.antt)"
 same 'the longest text in C' "$(declared TEXT)" "$(defined longest */specs/Limits.antt)"
 kibibytes=$(in_one_line README.md | sed -n 's/.* how much stack a call needs (\([0-9]*\) KiB suffice: .*/\1/p')
 same 'the stack in C, and the README in KiB' "$(declared STACK)" "$((${kibibytes:-0} * 1024))"
@@ -84,26 +84,21 @@ promises 'A label has no character below 20 hex, and no 7f. All others stand on 
 promises 'The digits of a refusal are hexadecimal like the others: 3f100002 is refusal 16 at line 2, and 3f0a0102 is refusal 10 at line 258.'
 promises 'The outside, 07, ranks with none of them: that an offer of the plan comes in is no breach, and that a level hands it down to a lower one is.'
 
-quietly rt staticlib gateway
-library=target/staticlib/libgateway.a
+(cd crates/gateway && rt lib) >"$work/log" 2>&1 || {
+    cat "$work/log"
+    fail 'this failed: rt lib in crates/gateway'
+}
+library=crates/gateway/out/libgateway.a
 quietly cargo build --release --offline --manifest-path second/Cargo.toml --target-dir second/target
 second=second/target/release/second
 
-machine=$(uname -m)
-compiler=cc tools=
-if [ "$machine" != x86_64 ]; then
-    compiler=x86_64-linux-gnu-gcc tools=x86_64-linux-gnu-
-    command -v $compiler >/dev/null || {
-        echo 'gateway.sh: no gateway was tried: the library is for x86-64 programs, and there is no compiler for them here'
-        exit 0
-    }
-fi
+[ "$(uname -m)" = x86_64 ] || fail 'no gateway can be tried: the library is for x86-64 programs'
 
 # Several threads may call it: it has no data that can be written, and calls nothing that has.
-quietly "${tools}size" "$library"
+quietly size "$library"
 state=$(awk 'NR > 1 { data += $2; bss += $3; objects++ } END { print (objects ? data + bss : "no object") }' "$work/log")
 same 'bytes of data that can be written' "$state" 0
-quietly "${tools}nm" "$library"
+quietly nm "$library"
 same 'what the library gives' "$(sed -n 's/.* T //p' "$work/log" | sort | tr '\n' ' ')" 'hjaltropa_reach hjaltropa_sheet hjaltropa_words '
 foreign=$(awk '$1 == "U" && $2 !~ /^(memcpy|memset)$/ { print $2 }' "$work/log")
 [ -z "$foreign" ] || fail "the library calls $foreign"
@@ -113,7 +108,7 @@ flags='-O2 -Wall -Wextra -Werror -pedantic -Iexamples'
 build() {
     name=$1
     shift
-    quietly $compiler -std=c11 $flags -o "$work/$name" "$@" "$library"
+    quietly cc -std=c11 $flags -o "$work/$name" "$@" "$library"
 }
 
 # The header stands for itself, declares what the functions take, and its lines for reading a verdict tell a yes from the rest.
@@ -136,24 +131,19 @@ cp "$work/header.c" "$work/header.cpp"
 build header_in_c "$work/header.c"
 headers=header_in_c
 cpp='not tried'
-if [ "$machine" = x86_64 ]; then
-    for plus in c++ g++ clang++; do
-        if command -v $plus >/dev/null; then
-            quietly $plus -std=c++17 $flags -o "$work/header_in_cpp" "$work/header.cpp" "$library"
-            headers='header_in_c header_in_cpp'
-            cpp=tried
-            break
-        fi
-    done
-fi
+for plus in c++ g++ clang++; do
+    if command -v $plus >/dev/null; then
+        quietly $plus -std=c++17 $flags -o "$work/header_in_cpp" "$work/header.cpp" "$library"
+        headers='header_in_c header_in_cpp'
+        cpp=tried
+        break
+    fi
+done
 
 build in_c examples/gateway.c
 build ask examples/ask.c
-gateways=in_c
-if [ "$machine" = x86_64 ]; then
-    quietly rustc --edition 2021 -O -o "$work/in_rust" examples/gateway.rs -C link-arg="$library"
-    gateways='in_c in_rust'
-fi
+quietly rustc --edition 2021 -O -o "$work/in_rust" examples/gateway.rs -C link-arg="$library"
+gateways='in_c in_rust'
 
 # The plans. P1, P2, P6 and P10 are document 01's.
 plan() {
@@ -755,10 +745,10 @@ size_t __wrap_hjaltropa_words(const uint8_t *text, size_t text_length, uint16_t 
     return call(&of, text, text_length, allowance, buffer, buffer_length);
 }
 END
-quietly $compiler -std=c11 $flags -c -o "$work/faults.o" "$work/faults.c"
+quietly cc -std=c11 $flags -c -o "$work/faults.o" "$work/faults.c"
 wraps=-Wl,--wrap=hjaltropa_sheet,--wrap=hjaltropa_reach,--wrap=hjaltropa_words
 build faulty_in_c examples/gateway.c "$work/faults.o" $wraps
-[ "$gateways" = in_c ] || quietly rustc --edition 2021 -O -o "$work/faulty_in_rust" examples/gateway.rs -C link-arg="$work/faults.o" \
+quietly rustc --edition 2021 -O -o "$work/faulty_in_rust" examples/gateway.rs -C link-arg="$work/faults.o" \
     -C link-arg="$library" -C link-arg=$wraps
 faults=0
 for gateway in $gateways; do
@@ -815,77 +805,73 @@ ask_finds other longest 'the word sheet is longer than any should be'
 ask_finds more most_labels 'the word sheet is longer than any should be'
 
 # Several threads, each with the stack that the header asks for.
-threads='not tried'
-if [ "$machine" = x86_64 ]; then
-    build threads -pthread examples/threads.c
-    build faulty_threads -pthread examples/threads.c "$work/faults.o" $wraps
-    set --
-    for name in $answered $refused; do
+build threads -pthread examples/threads.c
+build faulty_threads -pthread examples/threads.c "$work/faults.o" $wraps
+set --
+for name in $answered $refused; do
+    set -- "$@" "$work/$name.plan"
+done
+some='P2 P10 differing longest handed_down labelled exact most_labels ill_formed deep_labels deeper deeper_labels'
+taken() {
+    sed -n 's/^threads: the deepest call took \([0-9]*\) bytes of stack$/\1/p' "$work/err"
+}
+# threads_find FAULT LINE NAMES: asked for these plans, threads ends with status 1 and says this at last, or, where there is no line, with status 0.
+threads_find() {
+    fault=$1 line=$2 names=$3 wanted=1
+    [ -n "$line" ] || wanted=0
+    set -- $words
+    for name in $names; do
         set -- "$@" "$work/$name.plan"
     done
-    some='P2 P10 differing longest handed_down labelled exact most_labels ill_formed deep_labels deeper deeper_labels'
-    taken() {
-        sed -n 's/^threads: the deepest call took \([0-9]*\) bytes of stack$/\1/p' "$work/err"
+    status=0
+    FAULT=$fault ./run "$work/faulty_threads" "$@" >"$work/out" 2>"$work/err" || status=$?
+    [ $status = $wanted ] || fail "threads, with the fault '$fault': status $status for $wanted"
+    [ -z "$line" ] || same "what threads says of the fault '$fault'" "$(tail -n 1 "$work/err")" "threads: $line"
+    faults=$((faults + 1))
+}
+threads=tried
+for function in sheet reach words; do
+    words=${function#sheet}
+    for name in $answered $refused; do
+        cat "$work/$name.$function"
+    done >"$work/wanted"
+    status=0
+    ./run "$work/threads" $words "$@" >"$work/out" 2>"$work/err" || status=$?
+    [ $status = 0 ] || {
+        cat "$work/err"
+        fail "threads ended with status $status on the $function; above 128, a thread needs more stack than HJALTROPA_STACK"
     }
-    # threads_find FAULT LINE NAMES: asked for these plans, threads ends with status 1 and says this at last, or, where there is no line, with status 0.
-    threads_find() {
-        fault=$1 line=$2 names=$3 wanted=1
-        [ -n "$line" ] || wanted=0
-        set -- $words
-        for name in $names; do
-            set -- "$@" "$work/$name.plan"
-        done
-        status=0
-        FAULT=$fault ./run "$work/faulty_threads" "$@" >"$work/out" 2>"$work/err" || status=$?
-        [ $status = $wanted ] || fail "threads, with the fault '$fault': status $status for $wanted"
-        [ -z "$line" ] || same "what threads says of the fault '$fault'" "$(tail -n 1 "$work/err")" "threads: $line"
-        faults=$((faults + 1))
-    }
-    threads=tried
-    for function in sheet reach words; do
-        words=${function#sheet}
-        for name in $answered $refused; do
-            cat "$work/$name.$function"
-        done >"$work/wanted"
-        status=0
-        ./run "$work/threads" $words "$@" >"$work/out" 2>"$work/err" || status=$?
-        [ $status = 0 ] || {
-            cat "$work/err"
-            fail "threads ended with status $status on the $function; above 128, a thread needs more stack than HJALTROPA_STACK"
-        }
-        cmp "$work/out" "$work/wanted"
-        measured=$(taken)
-        threads="$threads, and for the $function $(sed -n 's/^threads: //p' "$work/err")"
-        for name in deeper deeper_labels; do
-            ./run "$work/threads" $words "$work/$name.plan" >"$work/out" 2>"$work/err"
-            same "the stack for a tree of depth 33, $name, $function" "$(taken)" "$measured"
-        done
-        # The stack that the header says the deepest call took is what it takes here, but for a twentieth, which is another C compiler's.
-        stated=$(in_one_line examples/gateway.h | sed -n 's/.* the deepest calls in examples\/threads.c, on a tree of depth 33, took //p' |
-            sed -n "s/^\(.* \)\{0,1\}\([0-9,]*\) (hjaltropa_$function).*/\2/p" | tr -d ,)
-        [ -n "$stated" ] && [ $((20 * measured)) -le $((21 * stated)) ] && [ $((20 * stated)) -le $((21 * measured)) ] ||
-            fail "the header says that the deepest call took '$stated' bytes of stack for the $function, and here it took '$measured'"
-
-        # A wrong byte or length in one call of many, the first or last byte, early and late; wrong bytes only where calls meet; and more stack,
-        # which HJALTROPA_STACK still holds, but without the margin. Alone, a plan is asked just as often as threads.c says.
-        threads_find none '' P2
-        threads_find none '' "$some"
-        for fault in first last less; do
-            threads_find $fault 'a plan had another sheet while others were asked' P2
-        done
-        threads_find crowd '' P2
-        threads_find crowd 'a plan had another sheet while others were asked' "$some"
-        for fault in stack50000 stack100000; do
-            threads_find $fault 'HJALTROPA_STACK leaves no margin over that' "$some"
-        done
-        threads_find byte '' P2
-        ! cmp -s "$work/out" "$work/P2.$function" || fail "threads prints another $function than the library gives"
+    cmp "$work/out" "$work/wanted"
+    measured=$(taken)
+    threads="$threads, and for the $function $(sed -n 's/^threads: //p' "$work/err")"
+    for name in deeper deeper_labels; do
+        ./run "$work/threads" $words "$work/$name.plan" >"$work/out" 2>"$work/err"
+        same "the stack for a tree of depth 33, $name, $function" "$(taken)" "$measured"
     done
-fi
+    # The stack that the header says the deepest call took is what it takes here, but for a twentieth, which is another C compiler's.
+    stated=$(in_one_line examples/gateway.h | sed -n 's/.* the deepest calls in examples\/threads.c, on a tree of depth 33, took //p' |
+        sed -n "s/^\(.* \)\{0,1\}\([0-9,]*\) (hjaltropa_$function).*/\2/p" | tr -d ,)
+    [ -n "$stated" ] && [ $((20 * measured)) -le $((21 * stated)) ] && [ $((20 * stated)) -le $((21 * measured)) ] ||
+        fail "the header says that the deepest call took '$stated' bytes of stack for the $function, and here it took '$measured'"
+
+    # A wrong byte or length in one call of many, the first or last byte, early and late; wrong bytes only where calls meet; and more stack,
+    # which HJALTROPA_STACK still holds, but without the margin. Alone, a plan is asked just as often as threads.c says.
+    threads_find none '' P2
+    threads_find none '' "$some"
+    for fault in first last less; do
+        threads_find $fault 'a plan had another sheet while others were asked' P2
+    done
+    threads_find crowd '' P2
+    threads_find crowd 'a plan had another sheet while others were asked' "$some"
+    for fault in stack50000 stack100000; do
+        threads_find $fault 'HJALTROPA_STACK leaves no margin over that' "$some"
+    done
+    threads_find byte '' P2
+    ! cmp -s "$work/out" "$work/P2.$function" || fail "threads prints another $function than the library gives"
+done
 
 # Fewer than this, and a part of these tests has got lost. Whoever adds to them raises it.
-sheets_least=930 verdicts_least=196 faults_least=180
-[ "$machine" != x86_64 ] || sheets_least=1860 faults_least=378
+sheets_least=1860 verdicts_least=196 faults_least=378
 [ "$cpp" = 'not tried' ] || verdicts_least=252
 [ $asked -ge $sheets_least ] && [ $verdicts -ge $verdicts_least ] && [ $faults -ge $faults_least ] ||
     fail "only $asked of $sheets_least sheets, $verdicts of $verdicts_least verdicts and $faults of $faults_least faults were tried"

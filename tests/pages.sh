@@ -1,8 +1,8 @@
 #!/bin/sh
 # Holds the pages against the program and the definitions: every example of docs/PLAN.md and docs/ANALYSIS.md byte for byte, the tables of frames,
 # limits, labels, refusals, questions, first bytes and edges, the tables of rounds, the definitions and functions that are cited, README's tables of sheet
-# lines, the examples against their sources, and the links. Run from the root, with target/bin/plan built; a reach sheet is held against
-# target/bin/reaches and a word sheet against target/bin/words, and an example with an allowance of its own goes through target/bin/batch.
+# lines, the examples against their sources, and the links. Run from the root, with crates/plan/out/plan built; a reach sheet is held against
+# crates/reaches/out/reaches and a word sheet against crates/words/out/words, and an example with an allowance of its own goes through crates/batch/out/batch.
 set -u
 LC_ALL=C
 export LC_ALL
@@ -46,10 +46,10 @@ tell() {
 # program KIND ALLOWANCE: the program that prints the sheet, the reach sheet or the word sheet, as the kind says, with `-` as the allowance for their own.
 program() {
     case $1,$2 in
-        sheet,-) echo target/bin/plan ;;
-        reach,-) echo target/bin/reaches ;;
-        words,-) echo target/bin/words ;;
-        *) echo target/bin/batch ;;
+        sheet,-) echo crates/plan/out/plan ;;
+        reach,-) echo crates/reaches/out/reaches ;;
+        words,-) echo crates/words/out/words ;;
+        *) echo crates/batch/out/batch ;;
     esac
 }
 
@@ -69,7 +69,7 @@ answer() {
         {
             printf '%08x%08x\n' $(($(wc -c <"$1"))) "$3"
             cat "$1"
-        } | ./run target/bin/batch | awk -v kind="$2" "$onward"'
+        } | ./run crates/batch/out/batch | awk -v kind="$2" "$onward"'
             BEGIN { part = "sheet" }
             part == kind
             { part = part_after(part, $0) }'
@@ -78,7 +78,7 @@ answer() {
 
 # firsts: the first line of the sheet of each of many texts, by one run of batch. A text is a line, with ` / ` between its own lines.
 firsts() {
-    awk '{ gsub(/ \/ /, "\n"); text = $0 "\n"; printf "%08x%08x\n%s", length(text), 17409, text }' | ./run target/bin/batch | awk "$onward"'
+    awk '{ gsub(/ \/ /, "\n"); text = $0 "\n"; printf "%08x%08x\n%s", length(text), 17409, text }' | ./run crates/batch/out/batch | awk "$onward"'
         BEGIN { part = "sheet" }
         { if (part == "sheet" && !inside) print; inside = part == "sheet"; part = part_after(part, $0) }'
 }
@@ -109,6 +109,13 @@ can_fail hold 'a command that fails' false
 can_fail same 'two files that differ' "$work/one" "$work/said"
 can_fail tell "$work/said"
 
+# sources FOLDER EXPRESSION..: the files in a folder that find's expression means, without the copies of sources that rt keeps in folders out.
+sources() {
+    folder=$1
+    shift
+    find "$folder" -name out -prune -o -type f \( "$@" \) -print
+}
+
 # stands NAME FILE..: the name stands in one of these files or folders, as a whole word.
 stands() {
     whole=$1
@@ -131,8 +138,8 @@ section() {
         on' "$1"
 }
 
-[ -x target/bin/plan ] || {
-    fault 'target/bin/plan is not built'
+[ -x crates/plan/out/plan ] || {
+    fault 'crates/plan/out/plan is not built'
     finish
 }
 

@@ -12,7 +12,7 @@ table() {
 # ---- the kinds: the table against the definitions, and which numbers may stand under each against the program
 
 table docs/PLAN.md '## Labels' '| kind |' | sed -n 's/^| `\(..\)` | an* \([a-z]*\) | \(.*\) |$/\1 \2 \3/p' >"$work/kinds"
-sed -n 's/^\([a-z]*\)Kind = 0x\(..\)$/\2 \1/p' crates/lines/specs/Labels.antt >"$work/wanted"
+sed -n 's/^\([a-z]*\)_kind = 0x\(..\)$/\2 \1/p' crates/lines/specs/Labels.antt >"$work/wanted"
 hold 'there are no kinds in Labels.antt' [ -s "$work/wanted" ]
 sed 's/^\([^ ]* [^ ]*\) .*/\1/' "$work/kinds" >"$work/out"
 same 'docs/PLAN.md: the kinds are not those of Labels.antt' "$work/wanted" "$work/out"
@@ -102,12 +102,12 @@ table docs/PLAN.md '### Which bytes a label may have' '| first byte |' | awk -F 
         for (i = 2; i <= 5; i++) if (split($i, part, "`") > 1) line = line " " part[2] " " (part[4] == "" ? part[2] : part[4])
         print substr(line, 2)
     }' >"$work/characters"
-characters=$(find crates -path '*/specs/Characters.antt' -exec grep -l 'RFC 3629' {} +)
+characters=$(sources crates -path '*/specs/Characters.antt' | xargs grep -l 'RFC 3629')
 if [ -f "$characters" ]; then
     hold 'the last bytes of a character are others' grep -qx 'tail = range 0x80 0xbf' "$characters"
     # The first row is without the code points that no label has.
     hold 'the code points of a label are others' \
-        grep -qF 'leb 0x20 (codePoint character) && not (eqb (codePoint character) 0x7f)' crates/label_bytes/specs/Label.antt
+        grep -qF 'leb 0x20 (code_point character) && not (eqb (code_point character) 0x7f)' crates/label_bytes/specs/Label.antt
     sed -n '/^table =/,/^$/p' "$characters" | grep range | sed 's/tail/range 0x80 0xbf/g; s/range//g; s/0x//g; s/[^0-9a-f ]//g; s/  */ /g; s/^ //; s/ $//' |
         sed '1s/^00 7f$/20 7e/' >"$work/wanted"
     hold 'there is no table of characters' [ -s "$work/wanted" ]
@@ -184,10 +184,10 @@ done
 for line in clear refused; do
     hold "docs/PLAN.md: the word sheet has no line '$line'" grep -qF "| \`$line\` |" docs/PLAN.md
 done
-short=$(sed -n 's/^longestShort \([0-9]*\) .*/\1/p' "$work/limits")
+short=$(sed -n 's/^longest_short \([0-9]*\) .*/\1/p' "$work/limits")
 parts=$(printf %s "$form" | sed 's/HIGH//; s/LOW//; s/CHANNEL//; s/OBJECT//' | wc -c)
 longest=$((parts + 4 * ${short:-0} + 1))
-hold "docs/PLAN.md: the longest word sheet has $longest bytes, and the limits say otherwise" grep -q "^longestWords $longest " "$work/limits"
+hold "docs/PLAN.md: the longest word sheet has $longest bytes, and the limits say otherwise" grep -q "^longest_words $longest " "$work/limits"
 tr '\n' ' ' <docs/PLAN.md >"$work/out"
 hold 'docs/PLAN.md: the longest word sheet is not said to suffice' grep -qF "**$longest bytes always suffice**, and that line has them all:" "$work/out"
 hold 'docs/PLAN.md: the parts of the longest word sheet are others' \
@@ -255,8 +255,8 @@ full() {
         print "15\n1906\n120001\n10\n1905\n13000200\n10"
     }'
 }
-labels=$(sed -n 's/^mostLabels \([0-9]*\) .*/\1/p' "$work/limits")
-bytes=$(sed -n 's/^longestLabel \([0-9]*\) .*/\1/p' "$work/limits")
+labels=$(sed -n 's/^most_labels \([0-9]*\) .*/\1/p' "$work/limits")
+bytes=$(sed -n 's/^longest_label \([0-9]*\) .*/\1/p' "$work/limits")
 full '' >"$work/text"
 tried=$(grep -cx "04....[0-9a-f]\{$((2 * ${bytes:-0}))\}" "$work/text")
 hold "${labels:-no} labels of ${bytes:-no} bytes are not what is tried" [ "$tried" = "${labels:-none}" ]

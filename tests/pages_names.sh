@@ -8,7 +8,7 @@ for page in PLAN ANALYSIS; do
         !block { text = text " " $0 }
         END {
             gsub(/  +/, " ", text)
-            while (match(text, /(`[A-Za-z][A-Za-z0-9-]*`(, | and )?)+ \([a-z_]+\)/)) {
+            while (match(text, /(`[A-Za-z][A-Za-z0-9_-]*`(, | and )?)+ \([a-z_]+\)/)) {
                 cited = substr(text, RSTART, RLENGTH)
                 text = substr(text, RSTART + RLENGTH)
                 crate = cited
@@ -22,7 +22,7 @@ for page in PLAN ANALYSIS; do
     while read -r crate name; do
         [ -d "crates/$crate" ] || continue
         some=yes
-        find "crates/$crate" -name '*.antt' -exec grep -hE "^ *((abbrev|unfoldable|pub|record|data) )*$name( |\$)" {} + >"$work/out"
+        sources "crates/$crate" -name '*.antt' | xargs grep -hE "^ *((abbrev|unfoldable|pub|record|data) )*$name( |\$)" >"$work/out"
         hold "docs/$page.md: $name ($crate) is not defined there" [ -s "$work/out" ]
     done <"$work/cited"
     hold "docs/$page.md cites no definition" [ $some = yes ]
@@ -93,8 +93,9 @@ for page in docs/landings/*.md; do
     while read -r name places; do
         # A crate is its folder. What a must-fail edit says is no definition.
         [ "$places" = "crates/$name" ] && [ -d "$places" ] && held && continue
-        # shellcheck disable=SC2086
-        find $places \( -path '*/src/*' -o -path '*/specs/*' -o -path '*/proofs/*' -o -path 'tests/*' \) -type f -exec cat {} + >"$work/out" 2>/dev/null
+        for place in $places; do
+            sources "$place" -path '*/src/*' -o -path '*/specs/*' -o -path '*/proofs/*' -o -path 'tests/*'
+        done 2>/dev/null | xargs cat >"$work/out"
         hold "$page: there is no $name in $places" stands "$name" "$work/out"
     done <"$work/cited"
 done
@@ -114,17 +115,13 @@ while read -r crate name; do
     hold "README: $name is no function of $crate" function_in "$name" "crates/$crate/src"
 done <"$work/map"
 
-# Where the code's names are those of the definitions, they are written with underscores.
+# Where the code's names are those of the definitions, they are read there.
 section docs/PROMISES.md '## The refusals' | awk -F '|' '
     /^\| [0-9]/ {
         alike = $4 ~ /functions of the same names/
         parts = split(alike ? $3 : $4, part, "`")
         if (parts < 3) print "no-name"
-        for (i = 2; i < parts; i += 2) {
-            name = part[i]
-            while (alike && match(name, /[A-Z]/)) name = substr(name, 1, RSTART - 1) "_" tolower(substr(name, RSTART, 1)) substr(name, RSTART + 1)
-            print name
-        }
+        for (i = 2; i < parts; i += 2) print part[i]
     }' >"$work/code"
 hold 'docs/PROMISES.md: the refusals name no code' [ "$(wc -l <"$work/code")" -ge 27 ]
 while read -r name; do

@@ -4,17 +4,17 @@
 
 # definitions NAME: the one file of that name that holds definitions.
 definitions() {
-    find crates -name "$1" ! -path '*/proofs/*' ! -path '*/must-fail/*'
+    sources crates -name "$1" ! -path '*/proofs/*' ! -path '*/must-fail/*'
 }
 
 frames=$(definitions Frames.antt)
 if [ -f "$frames" ]; then
     # A row has one number of bytes, or is between two, of which the second may be so many more than the longest label has.
-    label=$(sed -n 's/^longestLabel = \([0-9][0-9]*\)$/\1/p' "$(definitions Limits.antt)")
-    sed "s/(3 + longestLabel)/$((3 + label))/" "$frames" | sed -n '
-        s/.*row 0x\([0-9a-f][0-9a-f]\) \([A-Za-z]*\) [A-Z][A-Za-z]* \([0-9][0-9]*\) *$/\1 \3 \2/p
-        s/.*between 0x\([0-9a-f][0-9a-f]\) \([A-Za-z]*\) [A-Z][A-Za-z]* \([0-9][0-9]*\) \([0-9][0-9]*\) *$/\1 \3 to \4 \2/p' |
-        sed 's/firstLine$/head/; s/freeNames$/free names/; s/offerLines$/offers/; s/labelLines$/labels/; s/treeLines$/tree/' >"$work/frames"
+    label=$(sed -n 's/^longest_label = \([0-9][0-9]*\)$/\1/p' "$(definitions Limits.antt)")
+    sed "s/(3 + longest_label)/$((3 + label))/" "$frames" | sed -n '
+        s/.*row 0x\([0-9a-f][0-9a-f]\) \([a-z_]*\) [A-Z][A-Za-z]* \([0-9][0-9]*\) *$/\1 \3 \2/p
+        s/.*between 0x\([0-9a-f][0-9a-f]\) \([a-z_]*\) [A-Z][A-Za-z]* \([0-9][0-9]*\) \([0-9][0-9]*\) *$/\1 \3 to \4 \2/p' |
+        sed 's/first_line$/head/; s/free_names$/free names/; s/offer_lines$/offers/; s/label_lines$/labels/; s/tree_lines$/tree/' >"$work/frames"
     section docs/PLAN.md '## The frames' |
         sed -n 's/^| `\([0-9a-f][0-9a-f]\)` | \([0-9][0-9]*\( to [0-9][0-9]*\)*\) | [^|]* | \([a-z ]*\) |.*/\1 \2 \4/p' >"$work/rows"
     hold 'there are no frames in Frames.antt' [ -s "$work/frames" ]
@@ -25,10 +25,10 @@ fi
 
 # ---- the branches of the table of frames are those of the definitions
 
-sed -n 's/^branchCount (*\([A-Z][a-z]*\)[^=]*= \([0-9]\)$/\1 \2/p' crates/*/specs/Tree.antt | tr 'A-Z' 'a-z' | sort >"$work/counts"
+sed -n 's/^branch_count (*\([A-Z][a-z]*\)[^=]*= \([0-9]\)$/\1 \2/p' crates/*/specs/Tree.antt | tr 'A-Z' 'a-z' | sort >"$work/counts"
 section docs/PLAN.md '## The frames' | awk -F '|' '/^\| `1/ { name = $7; sub(/:.*/, "", name); gsub(/ step/, "", name); gsub(/ /, "", name); gsub(/ /, "", $6); print name, $6 }' | sort >"$work/branches"
 hold 'docs/PLAN.md: there are no branches' [ -s "$work/counts" ]
-same 'docs/PLAN.md: the branches are not those of branchCount' "$work/counts" "$work/branches"
+same 'docs/PLAN.md: the branches are not those of branch_count' "$work/counts" "$work/branches"
 
 # ---- the table of limits
 
@@ -36,14 +36,14 @@ limits=$(definitions Limits.antt)
 section docs/PLAN.md '## The limits' | awk -F '|' '
     /^\| .*`/ { number = $3; gsub(/[ ,]/, "", number); split($4, part, "`"); crate = part[3]; gsub(/[ ()]/, "", crate); print part[2], number, crate }' >"$work/limits"
 if [ -f "$limits" ]; then
-    sed -n 's/^\([A-Za-z]*\) = \([0-9][0-9]*\)$/\1 \2/p' "$limits" >"$work/stated"
+    sed -n 's/^\([A-Za-z_]*\) = \([0-9][0-9]*\)$/\1 \2/p' "$limits" >"$work/stated"
     hold 'there are no limits in Limits.antt' [ -s "$work/stated" ]
     while read -r name number; do
         hold "docs/PLAN.md: no row of the limits says that $name is $number" grep -q "^$name $number " "$work/limits"
     done <"$work/stated"
     # Some are sums there, of what stands before: as many labels as there are things.
     awk '
-        $2 == "=" && NF % 2 == 1 && $1 ~ /^[A-Za-z]+$/ {
+        $2 == "=" && NF % 2 == 1 && $1 ~ /^[A-Za-z_]+$/ {
             sum = 0
             for (i = 3; i <= NF; i += 2) {
                 if ($i !~ /^[0-9]+$/ && !($i in is) || i < NF && $(i + 1) != "+") next
@@ -53,14 +53,14 @@ if [ -f "$limits" ]; then
             print $1 " = " sum
         }' "$limits" >"$work/sums"
     hold 'docs/PLAN.md: no row of the limits says how many labels there may be' \
-        grep -qx "mostLabels $(sed -n 's/^mostLabels = //p' "$work/sums") limits" "$work/limits"
+        grep -qx "most_labels $(sed -n 's/^most_labels = //p' "$work/sums") limits" "$work/limits"
 else
     fault "there is not one file Limits.antt: $limits"
     : >"$work/sums"
 fi
 while read -r name number crate; do
     {
-        find "crates/$crate" -name '*.antt' -exec cat {} + 2>/dev/null
+        sources "crates/$crate" -name '*.antt' 2>/dev/null | xargs cat
         [ "$crate" != limits ] || cat "$work/sums"
     } | grep -x "$name = $number" >"$work/out"
     hold "docs/PLAN.md: no definition of $crate says that $name is $number" [ -s "$work/out" ]

@@ -1,6 +1,6 @@
 #!/bin/sh
 # What plan, reaches, words and batch do with their input: the longest text and longer ones, offers, labels, input that comes slowly, and records that
-# are none. Run from the root, with the programs built.
+# are none. Run from the root, with the programs built (tests/build.sh).
 set -u
 work=$(mktemp -d)
 trap 'rm -rf "$work"' EXIT
@@ -30,7 +30,7 @@ fi
 
 # gives PROGRAM NAME [WANTED]: for $work/in it prints just this file, $work/wanted if none is named, and ends with status 0.
 gives() {
-    ./run "target/bin/$1" <"$work/in" >"$work/out" || echo "status $?" >>"$work/out"
+    ./run "crates/$1/out/$1" <"$work/in" >"$work/out" || echo "status $?" >>"$work/out"
     same "$1: $2" "${3-$work/wanted}" "$work/out"
 }
 
@@ -317,7 +317,7 @@ gives batch 'labels of every length'
 "$second" batch <"$work/in" >"$work/out" || echo 'no second program' >>"$work/out"
 same 'labels of every length, by the second program' "$work/wanted" "$work/out"
 for number in $(each 1 240 %d); do
-    ./run target/bin/words <"$work/labels.$number" || echo "status $?"
+    ./run crates/words/out/words <"$work/labels.$number" || echo "status $?"
 done >"$work/out"
 same 'words: labels of every length' "$work/lines" "$work/out"
 echo 240 >"$work/wanted"
@@ -390,7 +390,7 @@ for program in plan reaches words; do
     {
         pad 60000000
         echo $? >"$work/status"
-    } | ./run target/bin/$program >"$work/out"
+    } | ./run crates/$program/out/$program >"$work/out"
     printf '3f010000\nrefused\n' >"$work/wanted"
     [ $program != words ] || cp "$work/refused" "$work/wanted"
     same "$program: 60,000,000 bytes" "$work/wanted" "$work/out"
@@ -411,7 +411,7 @@ slowly() {
             sleep 0.3
             printf "$piece"
         done
-    } | ./run target/bin/$program >"$work/out"
+    } | ./run crates/$program/out/$program >"$work/out"
     same "$program: $name" "$work/wanted" "$work/out"
 }
 slowly plan 'a slow writer' '2f0001\n3001\nflow clear\n' 0101 '01000000\n' '10\n'
@@ -467,7 +467,7 @@ prints batch 'the largest allowance' '000000100000ffff\n010101000000\n10\n' "$sh
 prints batch 'an allowance over 65,535' '0000001000010000\n010101000000\n10\n' "bad record 1: $allowance\n"
 { printf '0001000000004401\n' && pad 65536 && printf "$good"; } >"$work/in"
 printf "$long$sheets" >"$work/wanted"
-./run target/bin/batch <"$work/in" >"$work/out"
+./run crates/batch/out/batch <"$work/in" >"$work/out"
 same 'batch: a length of 65,536' "$work/wanted" "$work/out"
 
 # More records than any counter of a few digits holds.
@@ -484,7 +484,8 @@ gives batch '70,000 records'
 # `of_input` makes of what they read.
 for pair in plan:Flow reaches:Reach words:Words; do
     sed 's,//.*,,' crates/${pair%:*}/src/main.rt | grep . >"$work/out"
-    printf 'use inputs::Asked;\nfn main() {\n    asking::answer(Asked::%s);\n}\n' ${pair#*:} >"$work/wanted"
+    printf '%s\n' '#![tactic(auto)]' 'use inputs::Asked;' 'use std::io;' 'fn main(rt: HostRuntime) -> io::Result<()> {' \
+        "    asking::answer(&rt, Asked::${pair#*:})" '}' >"$work/wanted"
     same "${pair%:*}: one call" "$work/wanted" "$work/out"
     find crates/${pair%:*}/src -type f >"$work/out"
     echo crates/${pair%:*}/src/main.rt >"$work/wanted"

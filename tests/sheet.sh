@@ -1,5 +1,5 @@
 #!/bin/sh
-# What ./sheet prints, says and how it exits. Run from the root, with the programs plan, reaches and words proved and built.
+# What ./sheet prints, says and how it exits. Run from the root, with the programs plan, reaches and words proved and built (tests/build.sh).
 set -u
 work=$(mktemp -d)
 trap 'rm -rf "$work"' EXIT

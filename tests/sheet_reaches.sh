@@ -234,7 +234,7 @@ fi
 # Over a false program, in the clone of the part before: rt is asked for this program and no other, and no other is run.
 # reacher LINE..: the clone's program reaches is this script; it forgets its calls.
 reacher() {
-    lines "$@" >"$clone/target/bin/reaches"
+    lines "$@" >"$clone/crates/reaches/out/reaches"
     : >"$work/runs"
 }
 program 'exit 9'
@@ -253,9 +253,9 @@ lines 'Handle 3 never reaches level 0.' >"$work/wanted"
 expect 'nothing in a false reach sheet' 0 "$work/wanted" false_sheet --reaches 3 --level 0 "$work/plan"
 lines 'Handle 17 is received nowhere in the relay.' >"$work/wanted"
 expect 'the whole relay of a false reach sheet' 0 "$work/wanted" false_sheet --reaches 17 --level 7 "$work/plan"
-lines "$here check reaches" "$here check reaches" "$here check reaches" "$here check reaches" >"$work/both"
+repeat 4 "$here/crates/reaches run" >"$work/both"
 expect 'rt is asked for reaches each time' 0 "$work/both" cat "$work/checks"
-lines "$here target/bin/reaches" "$here target/bin/reaches" "$here target/bin/reaches" "$here target/bin/reaches" >"$work/both"
+repeat 4 "$here crates/reaches/out/reaches" >"$work/both"
 expect 'reaches is run each time' 0 "$work/both" cat "$work/runs"
 reacher "$(printing 3f0e0000 refused)"
 lines 'The plan is refused: more rounds are needed than were allowed (refusal 14).' >"$work/wanted"
@@ -270,11 +270,11 @@ expect 'a reach sheet with an unknown refusal' 2 "$work/wanted" false_sheet --re
 
 # A program that can't be proved, is gone or fails.
 reacher "$(printing 'reach complete')"
-toolchain "$(printing "$unchanged" 'rt: reaches NOT PROVED (exit 1, 3 s)')" 'exit 1'
+toolchain "$no_change" "$(printing "$(refuted reaches)")" 'exit 1'
 expect 'a failed proof of reaches' 3 "$work/nothing" false_sheet --reaches 9 "$work/plan"
-hints "^sheet: the program could not be proved: 'rt check reaches' ended with exit status: 1$"
+hints "^sheet: the program could not be proved: 'rt run' in crates/reaches ended with exit status: 1$"
 expect 'no old reaches was run' 0 "$work/nothing" cat "$work/runs"
-toolchain "printf '%s\n' 'echo 23020100' 'echo reach complete' >target/bin/reaches" "$well"
+toolchain "printf '%s\n' 'echo 23020100' 'echo reach complete' >out/reaches" "$well"
 lines 'Handle 1 may reach level 2, on channel 0.' >"$work/wanted"
 expect 'the new reaches runs' 1 "$work/wanted" false_sheet --reaches 1 --level 2 "$work/plan"
 toolchain "$well"
@@ -284,9 +284,9 @@ says "sheet: $work/plan: the program failed: exit status: 1"
 reacher "$(printing 'reach complete')" 'kill -9 $$'
 expect 'a program reaches that is killed' 3 "$work/nothing" false_sheet --reaches 9 "$work/plan"
 hints "^sheet: $work/plan: the program failed: signal: 9"
-rm "$clone/target/bin/reaches"
+rm "$clone/crates/reaches/out/reaches"
 expect 'no program reaches' 3 "$work/nothing" false_sheet --reaches 9 "$work/plan"
-says "sheet: $work/plan: target/bin/reaches is gone, though it is proved: remove target/ and ask again"
+says "sheet: $work/plan: crates/reaches/out/reaches is gone, though it is proved: remove crates/reaches/out and ask again"
 
 # What is no reach sheet, or none of this plan.
 # no_reach LINE..: a program that prints this gives no reach sheet.

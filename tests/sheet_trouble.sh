@@ -1,15 +1,19 @@
 # What ./sheet does around the toolchain and the program, with a false rt and a false run in a clone of their own; read by tests/sheet.sh.
 
 clone=$work/clone
-mkdir "$clone" "$clone/front" "$clone/target" "$clone/target/bin" "$clone/target/log" "$work/bin"
+mkdir "$clone" "$clone/front" "$clone/crates" "$work/bin"
 cp sheet "$clone/sheet"
 cp -R front/Cargo.toml front/Cargo.lock front/src "$clone/front"
-: >"$clone/crates.txt"
+lines '# The crates.' sets: 'plan: sets' 'reaches: sets' 'words: sets' 'gateway staticlib: sets' >"$clone/crates.txt"
+for crate in sets plan reaches words; do
+    mkdir -p "$clone/crates/$crate/out/rlib" "$clone/crates/$crate/out/incremental"
+done
 here=$(cd "$clone" && pwd -P)
 
-# The false run has a shell run the program, which a false rt writes; both keep a list of their calls.
+# The false run has a shell run the program, which a false rt writes; both keep a list of their calls. All that rt says itself is on standard error,
+# and what the program prints that it runs, on 3, is standard output; it knows by its folder which program it is for.
 lines '#!/bin/sh' "echo \"\$(pwd -P) \$*\" >>'$work/runs'" 'exec sh "$1"' >"$clone/run"
-lines '#!/bin/sh' "echo \"\$(pwd -P) \$*\" >>'$work/checks'" ". '$work/rt'" >"$work/bin/rt"
+lines '#!/bin/sh' "echo \"\$(pwd -P) \$*\" >>'$work/checks'" 'exec 3>&1 >&2' 'name=$(basename "$(pwd -P)")' ". '$work/rt'" >"$work/bin/rt"
 chmod +x "$clone/run" "$work/bin/rt"
 # false_sheet WORD..: the clone's ./sheet, over the false rt.
 false_sheet() {
@@ -18,11 +22,11 @@ false_sheet() {
 
 # program LINE..: the clone's program plan is this script. wording LINE..: its program words is. toolchain LINE..: rt is. All forget their calls.
 program() {
-    lines "$@" >"$clone/target/bin/plan"
+    lines "$@" >"$clone/crates/plan/out/plan"
     : >"$work/runs"
 }
 wording() {
-    lines "$@" >"$clone/target/bin/words"
+    lines "$@" >"$clone/crates/words/out/words"
     : >"$work/runs"
 }
 toolchain() {
@@ -33,8 +37,16 @@ toolchain() {
 printing() {
     lines "cat <<'END'" "$@" END
 }
-unchanged='rt: plan proved (unchanged since it was last proved)'
-well=$(printing "$unchanged" 'rt: ok, 6 crates proved')
+# What rt says of a program that is as it was, and before it runs one: of plan, and what a false rt does to say it of its own.
+unchanged='rt: nothing has changed since the last proved build, by out/plan.stamp, so nothing is checked now'
+running='rt: running out/plan; to give it other input, run that file yourself'
+no_change='echo "rt: nothing has changed since the last proved build, by out/$name.stamp, so nothing is checked now"'
+a_run='echo "rt: running out/$name; to give it other input, run that file yourself"'
+well=$(lines "$no_change" "$a_run" 'echo the answer to another text >&3')
+# refuted NAME: what rt says where a proof of the program fails.
+refuted() {
+    lines "fn $1::main: not proved" 'rattle build: nothing was built, since only a proved crate is built'
+}
 note='sheet: proving and building the program first, which may take some minutes'
 lines 2f0001 3001 'flow clear' >"$work/clear"
 clear=$(printing 2f0001 3001 'flow clear')
@@ -48,9 +60,9 @@ expect 'nothing new, and a first build where the caller builds elsewhere' 0 "$wo
 silent
 expect 'nothing new again' 0 "$work/clear" sh -c "cd / && PATH='$work/bin:$PATH' '$clone/sheet' '$work/plan'"
 silent
-lines "$here check plan" "$here check plan" >"$work/both"
+lines "$here/crates/plan run" "$here/crates/plan run" >"$work/both"
 expect 'rt is asked each time' 0 "$work/both" cat "$work/checks"
-lines "$here target/bin/plan" "$here target/bin/plan" >"$work/both"
+lines "$here crates/plan/out/plan" "$here crates/plan/out/plan" >"$work/both"
 expect 'the program is run each time' 0 "$work/both" cat "$work/runs"
 expect 'the program gets the text' 0 "$work/plan" cat "$work/given"
 lines '# nil' ' 01 01 01 00 00 00' '10 # end' >"$work/source"
@@ -64,41 +76,42 @@ expect 'a program that reads nothing of a long text' 0 "$work/clear" false_sheet
 silent
 
 # A program is as new as its source.
-toolchain "printf '%s\n' 'echo 3f0e0000' 'echo refused' >target/bin/plan" "$(printing "$unchanged" 'rt: plan proved (7 s)' 'rt: ok, 6 crates proved')"
+toolchain "$no_change" "[ \$name != plan ] || printf '%s\n' 'echo 3f0e0000' 'echo refused' >out/plan" 'echo "fn $name::main: proved"' "$a_run"
 wording 'echo refused'
 lines 3f0e0000 refused refused 'The plan is refused: more rounds are needed than were allowed (refusal 14).' >"$work/both"
 expect 'the new program runs' 2 "$work/both" false_sheet --words "$work/plan"
-says "$note" "$unchanged" 'rt: plan proved (7 s)' 'rt: ok, 6 crates proved'
+says "$note" "$unchanged" 'fn plan::main: proved' "$running" \
+    'rt: nothing has changed since the last proved build, by out/words.stamp, so nothing is checked now' 'fn words::main: proved' \
+    'rt: running out/words; to give it other input, run that file yourself'
 program "$clear"
-toolchain "$(printing "$unchanged" 'rt: plan NOT PROVED (exit 1, 3 s)')" 'echo a fault >&2' 'exit 1'
+toolchain "$no_change" "$(printing "$(refuted plan)")" 'echo a fault >&2' 'exit 1'
 expect 'a failed proof' 3 "$work/nothing" false_sheet "$work/plan"
-says "$note" "$unchanged" 'rt: plan NOT PROVED (exit 1, 3 s)' 'a fault' \
-    "sheet: the program could not be proved: 'rt check plan' ended with exit status: 1"
+says "$note" "$unchanged" "$(refuted plan)" 'a fault' "sheet: the program could not be proved: 'rt run' in crates/plan ended with exit status: 1"
 expect 'a failed proof for many' 3 "$work/nothing" false_sheet --each "$work/plan" "$work/plan"
-hints "^sheet: the program could not be proved: 'rt check plan' ended with exit status: 1$"
+hints "^sheet: the program could not be proved: 'rt run' in crates/plan ended with exit status: 1$"
 expect 'no old program was run' 0 "$work/nothing" cat "$work/runs"
 toolchain "$well" 'exit 2'
 expect 'a toolchain that fails in silence' 3 "$work/nothing" false_sheet "$work/plan"
-says "$note" "$unchanged" 'rt: ok, 6 crates proved' "sheet: the program could not be proved: 'rt check plan' ended with exit status: 2"
+says "$note" "$unchanged" "$running" "sheet: the program could not be proved: 'rt run' in crates/plan ended with exit status: 2"
 toolchain "$well" 'kill -9 $$'
 expect 'a toolchain that is killed' 3 "$work/nothing" false_sheet "$work/plan"
 hints '^sheet: the program could not be proved: '
 toolchain "$well"
-rm "$clone/target/bin/plan"
+rm "$clone/crates/plan/out/plan"
 expect 'no program' 3 "$work/nothing" false_sheet "$work/plan"
-says "sheet: $work/plan: target/bin/plan is gone, though it is proved: remove target/ and ask again"
+says "sheet: $work/plan: crates/plan/out/plan is gone, though it is proved: remove crates/plan/out and ask again"
 
 # Rt's lines are shown while it proves: it goes on only when the first was seen.
 program "$clear"
-toolchain 'echo "rt: sets proved (1 s)"' "until [ -e '$work/seen' ] || [ -e '$work/late' ]; do sleep 1; done" "[ -e '$work/seen' ]"
+toolchain 'echo "fn sets::union: proved"' "until [ -e '$work/seen' ] || [ -e '$work/late' ]; do sleep 1; done" "[ -e '$work/seen' ]"
 false_sheet "$work/plan" >"$work/out" 2>"$work/err" &
 asked=$!
-if await grep -q 'rt: sets proved (1 s)' "$work/err"; then : >"$work/seen"; else : >"$work/late"; fi
+if await grep -q 'fn sets::union: proved' "$work/err"; then : >"$work/seen"; else : >"$work/late"; fi
 wait $asked
 true_that "rt's lines are shown while it proves" [ $? = 0 ]
 toolchain 'sleep 5' "$well"
 expect 'a long silence' 0 "$work/clear" false_sheet "$work/plan"
-says "$note" "$unchanged" 'rt: ok, 6 crates proved'
+says "$note" "$unchanged" "$running"
 
 # One at a time: while rt is at work, no other rt is, and no program; also where the one who asked for it was killed.
 toolchain "mkdir '$work/busy' || echo clash >>'$work/clashes'" 'sleep 1' "rmdir '$work/busy'" "$well"
@@ -158,7 +171,7 @@ toolchain "$well"
 program "$clear"
 lines "$work/plan: flow clear" "$work/source: flow clear" "$work/plan: flow clear" >"$work/both"
 expect 'many' 0 "$work/both" false_sheet --each "$work/plan" "$work/source" "$work/plan"
-lines "$here check plan" >"$work/both"
+lines "$here/crates/plan run" >"$work/both"
 expect 'one check for many' 0 "$work/both" cat "$work/checks"
 
 # A program that fails, and what is no sheet, or none of this plan.
@@ -289,10 +302,10 @@ wording 'echo refused'
 lines 3f630003 refused refused 'The plan is refused at line 3: for a reason that this program does not know (refusal 99).' >"$work/both"
 expect 'an unknown refusal' 2 "$work/both" false_sheet --words "$work/plan"
 
-# A clone that can't be written: rt would go by its old log, and is not asked. Each folder that rt writes in is tried.
+# A clone that can't be written: rt is not asked. Each folder that rt writes in is tried, and what it notes of the program.
 program "$clear"
 toolchain "$well"
-for folder in target target/log target/stamp target/rlib target/obj target/bin; do
+for folder in crates/sets/out crates/sets/out/rlib crates/sets/out/incremental crates/plan/out crates/plan/out/incremental crates/gateway/out; do
     mkdir "$clone/$folder/.writable"
     expect "no writing in $folder" 3 "$work/nothing" false_sheet "$work/plan"
     hints "^sheet: this clone can't be written, so nothing is proved in it: $folder: "
@@ -301,15 +314,15 @@ done
 expect 'rt is not asked where it can not write' 0 "$work/nothing" cat "$work/checks"
 expect 'once it can' 0 "$work/clear" false_sheet "$work/plan"
 toolchain "$well"
-mkdir "$clone/target/log/plan.out"
-expect 'a log that rt has no right to' 3 "$work/nothing" false_sheet "$work/plan"
-hints "^sheet: this clone can't be written, so nothing is proved in it: target/log: "
-mv "$clone/target" "$clone/kept"
-: >"$clone/target"
+mkdir "$clone/crates/plan/out/plan.stamp"
+expect 'a note that rt has no right to' 3 "$work/nothing" false_sheet "$work/plan"
+hints "^sheet: this clone can't be written, so nothing is proved in it: crates/plan/out/plan.stamp: "
+mv "$clone/crates/plan/out" "$clone/kept"
+: >"$clone/crates/plan/out"
 expect 'no folder to write in' 3 "$work/nothing" false_sheet "$work/plan"
-hints "^sheet: this clone can't be written, so nothing is proved in it: target: "
+hints "^sheet: this clone can't be written, so nothing is proved in it: crates/plan/out: "
 expect 'rt is not asked in vain' 0 "$work/nothing" cat "$work/checks"
-rm "$clone/target"
+rm "$clone/crates/plan/out"
 mkdir -p "$work/unbuilt/front"
 cp sheet "$work/unbuilt/sheet"
 cp -R front/Cargo.toml front/Cargo.lock front/src "$work/unbuilt/front"
@@ -321,8 +334,9 @@ lines 'fn main() { 1 }' >"$work/unbuilt/front/src/main.rs"
 expect 'a program that can not be built' 3 "$work/nothing" "$work/unbuilt/sheet" "$work/plan"
 hints '^sheet: the program of .*/unbuilt/front could not be built$'
 
-# A new clone has no folder target; a changed front; no rt, and no cargo.
-toolchain 'printf "%s\n" "echo 2f0001" "echo 3001" "echo flow clear" >target/bin/plan' "$well"
+# A new clone has no folder out; a changed front; no rt, and no cargo.
+rm -r "$clone"/crates/*/out
+toolchain 'printf "%s\n" "echo 2f0001" "echo 3001" "echo flow clear" >out/plan' "$well"
 expect 'a new clone' 0 "$work/clear" false_sheet "$work/source"
 sed 's/^version = "1.0.0"$/version = "1.7.0"/' front/Cargo.toml >"$clone/front/Cargo.toml"
 lines 'Hjaltropa 1.7, plan text edition 01' >"$work/both"

@@ -13,8 +13,8 @@ down_named='No: level 3 may send handle 9 on channel 18, where level 2, which is
 lines 2f0004 21021200000200 22031200000200 300003021209 'flow breach' >"$work/named.sheet"
 cp "$work/named.plan" "$work/plan"
 
-# Rt is asked for both programs at once, and each is run once, with the same text; the line is printed as it came.
-toolchain "$(printing "$unchanged" 'rt: words proved (unchanged since it was last proved)' 'rt: ok, 8 crates proved')"
+# Rt is asked for both programs, and each is run once, with the same text; the line is printed as it came.
+toolchain "$well"
 program "cat >'$work/given'" "cat '$work/named.sheet'"
 wording "cat >'$work/given_too'" "$(printing "$word_line")"
 lines "$word_line" "$down_named" "$others" | cat "$work/named.sheet" - >"$work/both"
@@ -22,9 +22,9 @@ expect 'a false word sheet' 1 "$work/both" false_sheet --words "$work/plan"
 silent
 expect 'plan gets the text beside words' 0 "$work/plan" cat "$work/given"
 expect 'words gets the text' 0 "$work/plan" cat "$work/given_too"
-lines "$here check plan words" >"$work/both"
-expect 'rt is asked for both at once' 0 "$work/both" cat "$work/checks"
-lines "$here target/bin/plan" "$here target/bin/words" >"$work/both"
+lines "$here/crates/plan run" "$here/crates/words run" >"$work/both"
+expect 'rt is asked for both' 0 "$work/both" cat "$work/checks"
+lines "$here crates/plan/out/plan" "$here crates/words/out/words" >"$work/both"
 expect 'both are run' 0 "$work/both" cat "$work/runs"
 lines '# named' '01 01 13 13 04 00' '04 00 02 "ચાર"' '04 00 03 "પાંચ" # "x"' '04 00 09 "सविता"' '04 00 12 "કામ"' '04 01 02 "દસ"' '04 01 03 "વીસ"' \
     '04 01 09 "ત્રીસ"' '04 01 12 "સો"' '04 02 02 "रमेश शिवशंकर दवे"' '04 02 03 "મીના શાહ"' 10 >"$work/source"
@@ -37,18 +37,18 @@ wording 'exit 9'
 expect 'a sheet without words' 1 "$work/named.sheet" false_sheet "$work/plan"
 lines "$work/plan: flow breach: level 3 may send handle 9 on channel 18 to level 2" >"$work/both"
 expect 'a plan with labels among many' 1 "$work/both" false_sheet --each "$work/plan"
-lines "$here check plan" "$here check plan" >"$work/both"
+lines "$here/crates/plan run" "$here/crates/plan run" >"$work/both"
 expect 'rt is not asked for words' 0 "$work/both" cat "$work/checks"
-lines "$here target/bin/plan" "$here target/bin/plan" >"$work/both"
+lines "$here crates/plan/out/plan" "$here crates/plan/out/plan" >"$work/both"
 expect 'words is not run' 0 "$work/both" cat "$work/runs"
 
 # A program that can't be proved, is gone or fails.
 wording "$(printing "$word_line")"
-toolchain "$(printing "$unchanged" 'rt: words NOT PROVED (exit 1, 3 s)')" 'exit 1'
+toolchain "if [ \$name = plan ]; then $no_change; $a_run; else" "$(printing "$(refuted words)")" 'exit 1' fi
 expect 'a failed proof of words' 3 "$work/nothing" false_sheet --words "$work/plan"
-says "$note" "$unchanged" 'rt: words NOT PROVED (exit 1, 3 s)' "sheet: the program could not be proved: 'rt check plan words' ended with exit status: 1"
+says "$note" "$unchanged" "$running" "$(refuted words)" "sheet: the program could not be proved: 'rt run' in crates/words ended with exit status: 1"
 expect 'nothing old was run' 0 "$work/nothing" cat "$work/runs"
-toolchain "echo 'echo $word_line' >target/bin/words" "$well"
+toolchain "[ \$name = plan ] || echo 'echo $word_line' >out/words" "$well"
 wording 'exit 9'
 lines "$word_line" "$down_named" "$others" | cat "$work/named.sheet" - >"$work/both"
 expect 'the new words runs' 1 "$work/both" false_sheet --words "$work/plan"
@@ -59,9 +59,9 @@ says "sheet: $work/plan: no word sheet: the program failed: exit status: 1"
 wording "$(printing "$word_line")" 'kill -9 $$'
 expect 'a program words that is killed' 3 "$work/nothing" false_sheet --words "$work/plan"
 hints "^sheet: $work/plan: no word sheet: the program failed: signal: 9"
-rm "$clone/target/bin/words"
+rm "$clone/crates/words/out/words"
 expect 'no program words' 3 "$work/nothing" false_sheet --words "$work/plan"
-says "sheet: $work/plan: no word sheet: target/bin/words is gone, though it is proved: remove target/ and ask again"
+says "sheet: $work/plan: no word sheet: crates/words/out/words is gone, though it is proved: remove crates/words/out and ask again"
 wording "$(printing "$word_line")"
 program 'exit 1'
 expect 'a program plan that fails beside words' 3 "$work/nothing" false_sheet --words "$work/plan"

@@ -4,14 +4,15 @@ use std::io::{self, ErrorKind, Read, Write};
 use std::process::{Child, Command, Stdio};
 use std::thread;
 
-use crate::proving::Proved;
+use crate::proving::{self, Proved};
 
 /// What a program prints for a plan's text, or why there is no whole answer.
 pub fn answer(proved: &Proved, plan: &[u8]) -> Result<Vec<u8>, String> {
-    let program = format!("target/bin/{}", proved.program.name());
+    let program = proved.program.file();
     if !proved.root.join(&program).is_file() {
         return Err(format!(
-            "{program} is gone, though it is proved: remove target/ and ask again"
+            "{program} is gone, though it is proved: remove {} and ask again",
+            proving::out(proved.program.name())
         ));
     }
     let mut child = Command::new(proved.root.join("run"))

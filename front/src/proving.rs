@@ -4,7 +4,7 @@
 use std::fs::{self, File, OpenOptions, TryLockError};
 use std::io::{self, BufRead, BufReader, ErrorKind, PipeReader};
 use std::path::Path;
-use std::process::{Child, Command};
+use std::process::{Child, Command, Stdio};
 use std::rc::Rc;
 use std::sync::mpsc::{self, RecvTimeoutError};
 use std::thread;
@@ -16,17 +16,11 @@ use crate::output::{message, tell};
 const PATIENCE: Duration = Duration::from_secs(3);
 const PAUSE: Duration = Duration::from_millis(10);
 
-const LOG: &str = "target/log";
+/// The list of the crates: a line for each, its name before a colon or a blank.
+const CRATES: &str = "crates.txt";
 
-/// The folders that rt writes in.
-const FOLDERS: [&str; 6] = [
-    "target",
-    LOG,
-    "target/stamp",
-    "target/rlib",
-    "target/obj",
-    "target/bin",
-];
+/// The folders that rt writes in where they are there, in the folder of a crate's own that it makes.
+const FOLDERS: [&str; 2] = ["rlib", "incremental"];
 
 /// The programs, each of a crate of its name.
 #[derive(Clone, Copy)]
@@ -48,6 +42,21 @@ impl Program {
             Program::Words => "words",
         }
     }
+
+    /// The folder of its crate.
+    fn folder(self) -> String {
+        format!("crates/{}", self.name())
+    }
+
+    /// Where it stands once it is built.
+    pub fn file(self) -> String {
+        format!("{}/{}", out(self.name()), self.name())
+    }
+}
+
+/// The folder that rt makes for a crate, and writes in.
+pub fn out(name: &str) -> String {
+    format!("crates/{name}/out")
 }
 
 /// A program proved from the source as it is, which no other `./sheet` replaces while this lives.
@@ -62,11 +71,14 @@ pub fn prove<const COUNT: usize>(
     root: &Path,
     programs: [Program; COUNT],
 ) -> Result<[Proved<'_>; COUNT], String> {
-    let lock = lock(root).map_err(|error| format!("crates.txt can't be locked: {error}"))?;
-    write_everywhere(root).map_err(|what| {
+    let lock = lock(root).map_err(|error| format!("{CRATES} can't be locked: {error}"))?;
+    write_everywhere(root, &programs).map_err(|what| {
         format!("this clone can't be written, so nothing is proved in it: {what}")
     })?;
-    check(root, &programs.map(Program::name), &lock)?;
+    let mut news = News::default();
+    for program in programs {
+        check(root, program, &lock, &mut news)?;
+    }
     let lock = Rc::new(lock);
     Ok(programs.map(|program| Proved {
         root,
@@ -78,7 +90,7 @@ pub fn prove<const COUNT: usize>(
 /// The lock that each `./sheet` of a clone takes: on a file that is always there, and that rt never
 /// removes.
 fn lock(root: &Path) -> io::Result<File> {
-    let file = File::open(root.join("crates.txt"))?;
+    let file = File::open(root.join(CRATES))?;
     let limit = Instant::now() + PATIENCE;
     loop {
         match file.try_lock() {
@@ -95,12 +107,31 @@ fn lock(root: &Path) -> io::Result<File> {
 }
 
 /// Tries to write wherever rt does, or says where in the clone it can't.
-fn write_everywhere(root: &Path) -> Result<(), String> {
-    // Where rt can't write its log it goes by what stands there, and calls proved what has changed.
-    for folder in FOLDERS {
-        write_in(&root.join(folder)).map_err(|error| format!("{folder}: {error}"))?;
+fn write_everywhere(root: &Path, programs: &[Program]) -> Result<(), String> {
+    let crates =
+        fs::read_to_string(root.join(CRATES)).map_err(|error| format!("{CRATES}: {error}"))?;
+    for name in crates.lines().filter_map(crate_name) {
+        let out = out(name);
+        write_in(&root.join(&out)).map_err(|error| format!("{out}: {error}"))?;
+        for folder in FOLDERS.map(|folder| format!("{out}/{folder}")) {
+            let path = root.join(&folder);
+            if path.exists() {
+                write_in(&path).map_err(|error| format!("{folder}: {error}"))?;
+            }
+        }
     }
-    append_to_all(&root.join(LOG)).map_err(|error| format!("{LOG}: {error}"))
+    // By its note of what a program was built from rt tells whether anything is new.
+    for program in programs {
+        let note = format!("{}.stamp", program.file());
+        append_to(&root.join(&note)).map_err(|error| format!("{note}: {error}"))?;
+    }
+    Ok(())
+}
+
+/// The crate that a line of the list names.
+fn crate_name(line: &str) -> Option<&str> {
+    let named = line.split('#').next()?;
+    named.split([':', ' ', '\t']).find(|word| !word.is_empty())
 }
 
 /// Writes a file in a folder, which is made if need be, and removes the file.
@@ -111,17 +142,18 @@ fn write_in(folder: &Path) -> io::Result<()> {
     fs::remove_file(&probe)
 }
 
-/// Opens each file of a folder for writing, and leaves it as it is.
-fn append_to_all(folder: &Path) -> io::Result<()> {
-    for entry in fs::read_dir(folder)? {
-        OpenOptions::new().append(true).open(entry?.path())?;
+/// Opens a file for writing, if it is there, and leaves it as it is.
+fn append_to(file: &Path) -> io::Result<()> {
+    match OpenOptions::new().append(true).open(file) {
+        Err(error) if error.kind() != ErrorKind::NotFound => Err(error),
+        _ => Ok(()),
     }
-    Ok(())
 }
 
-/// Runs `rt check` on programs and shows its lines as they come, or says that it failed.
-fn check(root: &Path, names: &[&str], lock: &File) -> Result<(), String> {
-    let started = start(root, names, lock);
+/// Has a program proved, built and run by `rt run`, and shows the lines of rt as they come, or says
+/// that it failed. Nothing else builds a program; what it prints here is dropped.
+fn check(root: &Path, program: Program, lock: &File, news: &mut News) -> Result<(), String> {
+    let started = start(root, program, lock);
     let (reader, mut rt) = started.map_err(|error| match error.kind() {
         ErrorKind::NotFound => "the toolchain is not there: no command rt".to_owned(),
         _ => format!("rt could not be started: {error}"),
@@ -132,7 +164,6 @@ fn check(root: &Path, names: &[&str], lock: &File) -> Result<(), String> {
             let _ = sender.send(line);
         }
     });
-    let mut news = News::default();
     loop {
         match lines.recv_timeout(PATIENCE) {
             Ok(line) => news.line(line),
@@ -145,24 +176,24 @@ fn check(root: &Path, names: &[&str], lock: &File) -> Result<(), String> {
         Ok(status) => {
             news.show();
             Err(format!(
-                "the program could not be proved: 'rt check {}' ended with {status}",
-                names.join(" ")
+                "the program could not be proved: 'rt run' in {} ended with {status}",
+                program.folder()
             ))
         }
         Err(error) => Err(format!("rt's end could not be seen: {error}")),
     }
 }
 
-/// Starts `rt check` on programs, and gives what it prints on either output.
-fn start(root: &Path, names: &[&str], lock: &File) -> io::Result<(PipeReader, Child)> {
+/// Starts `rt run` on a program, and gives what rt prints, which is on standard error.
+fn start(root: &Path, program: Program, lock: &File) -> io::Result<(PipeReader, Child)> {
     let (reader, writer) = io::pipe()?;
     let rt = Command::new("rt")
-        .arg("check")
-        .args(names)
-        .current_dir(root)
-        // Rt reads nothing: as its input the lock outlives this process, should it be killed.
+        .arg("run")
+        .current_dir(root.join(program.folder()))
+        // Any input does for this run: with the lock as its input, that outlives this process, should
+        // it be killed.
         .stdin(lock.try_clone()?)
-        .stdout(writer.try_clone()?)
+        .stdout(Stdio::null())
         .stderr(writer)
         .spawn()?;
     Ok((reader, rt))
@@ -196,9 +227,10 @@ impl News {
     }
 }
 
-/// Whether a line of rt says that a crate is as it was, or that all is well.
+/// Whether a line of rt says that a program is as it was, or that it runs.
 fn is_no_news(line: &[u8]) -> bool {
-    line.ends_with(b" proved (unchanged since it was last proved)") || line.starts_with(b"rt: ok, ")
+    line.starts_with(b"rt: nothing has changed since the last proved build, ")
+        || line.starts_with(b"rt: running out/")
 }
 
 #[cfg(test)]
@@ -208,14 +240,34 @@ mod tests {
     #[test]
     fn only_what_was_proved_anew_or_failed_is_news() {
         for (line, no_news) in [
-            ("rt: sets proved (unchanged since it was last proved)", true),
-            ("rt: ok, 6 crates proved", true),
-            ("rt: sets proved (12 s)", false),
-            ("rt: sets NOT PROVED (exit 1, 12 s)", false),
-            ("rt: FAILED: sets", false),
+            (
+                "rt: nothing has changed since the last proved build, by out/plan.stamp, so nothing is checked now",
+                true,
+            ),
+            (
+                "rt: running out/plan; to give it other input, run that file yourself",
+                true,
+            ),
+            ("fn plan::main: proved", false),
+            ("rt: the library sets did not build, so nothing above it was checked", false),
+            ("rt: waiting for another rt to finish in crates/plan", false),
             ("", false),
         ] {
             assert_eq!(is_no_news(line.as_bytes()), no_news, "{line}");
+        }
+    }
+
+    #[test]
+    fn a_line_of_the_list_names_a_crate_or_none() {
+        for (line, name) in [
+            ("limits:", Some("limits")),
+            ("plan: asking inputs", Some("plan")),
+            ("gateway staticlib: sheet", Some("gateway")),
+            ("  sets : limits # and no more", Some("sets")),
+            ("# The programs: plan", None),
+            ("", None),
+        ] {
+            assert_eq!(crate_name(line), name, "{line}");
         }
     }
 }
