@@ -1,4 +1,4 @@
--- How many memberships in range a solution has, where a test tells them: at most B-as-C + 2·(k+2)·C·C, and one more where one is added.
+-- How many memberships in range a solution has, where a test tells them: at most B·C + 2·(k+2)·C·C, and one more where one is added.
 -- Assumes nothing.
 use Prim.Native.Nat.{ℕ, ◌+◌, ◌*◌, ◌<◌, ◌≤◌}
 use mathlib.Core.Bool.{Bool, true, false}

@@ -71,7 +71,7 @@ pub record Count (p : Plan) (n : ℕ) : Type 0 where
   pub settled : Settled p (after p earlier)
   pub first : (j : ℕ) → j < earlier → Settled p (after p j) → ⊥
 
--- the most rounds that a plan with this head can take: B-as-C + 2·(k+2)·C·C + 1
+-- the most rounds that a plan with this head can take: B·C + 2·(k+2)·C·C + 1
 abbrev pub most_rounds : Head → ℕ
 most_rounds h = h.binders * h.channels + 2 * (h.top + 2) * h.channels * h.channels + 1
 
