@@ -132,7 +132,7 @@ done <"$work/code"
 
 # number WANTED PATTERN: every number of that form on the pages is one of those wanted.
 number() {
-    grep -ohE "$2" $pages docs/PLAN.md docs/ANALYSIS.md | sort -u | tr '\n' ' ' >"$work/out"
+    grep -ohE "(^|[^0-9,])$2" $pages docs/PLAN.md docs/ANALYSIS.md | sed 's/^[^0-9]//' | sort -u | tr '\n' ' ' >"$work/out"
     hold "the pages say $(cat "$work/out"), and not $1" [ "$(cat "$work/out")" = "$1 " ]
 }
 number 17,409 '17,4[0-9]{2}'
@@ -142,11 +142,11 @@ number 8,128 '8,1[0-9]{2}'
 number 2,319 '2,3[0-9]{2}'
 hold 'the longest word sheet has another length on some page' \
     [ -z "$(grep -ohE '(^|[^0-9,])11[0-9] bytes' $pages docs/PLAN.md docs/ANALYSIS.md | grep -v '114 bytes')" ]
-# The stack of the deepest call is the header's, in decision 37 and on the page of the newest landing that gives it.
+# The stack of the deepest call is the header's, in decision 37 and on the newest page of a landing, or of the port behind them, that gives it.
 deepest=$(tr '\n' ' ' <examples/gateway.h | sed 's/.* took //; s/ with the library .*//' | tr -c '0-9,' '\n' | grep '^[0-9]*,[0-9]*$' | sort -t , -n -k 1,1 -k 2,2 | tail -n 1)
 awk '/^\*\*/ { on = /^\*\*37\. / } on' docs/DECISIONS.md >"$work/out"
 hold "docs/DECISIONS.md: decision 37 does not say that the deepest call took ${deepest:-none}" grep -qwF "${deepest:-none}" "$work/out"
-newest=$(grep -l 'deepest call takes' docs/landings/*.md | tail -n 1)
+newest=$(grep -l 'deepest call takes' docs/landings/*.md docs/PORT.md | tail -n 1)
 hold "${newest:-docs/landings}: the deepest call's stack is not ${deepest:-none}" grep -qwF "${deepest:-none}" "${newest:-/dev/null}"
 rounds=$(sed -n 's/^pub const CEILING: u16 = \([0-9]*\);$/\1/p' crates/solving/src/lib.rt)
 hold 'the most rounds are another number than the pages say' [ "$rounds" = 17409 ]

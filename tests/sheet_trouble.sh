@@ -109,7 +109,7 @@ asked=$!
 if await grep -q 'fn sets::union: proved' "$work/err"; then : >"$work/seen"; else : >"$work/late"; fi
 wait $asked
 true_that "rt's lines are shown while it proves" [ $? = 0 ]
-toolchain 'sleep 5' "$well"
+toolchain 'sleep 12' "$well"
 expect 'a long silence' 0 "$work/clear" false_sheet "$work/plan"
 says "$note" "$unchanged" "$running"
 

@@ -12,8 +12,10 @@ use std::time::{Duration, Instant};
 
 use crate::output::{message, tell};
 
-/// How long a person is left without a word.
+/// How long a person is left without a word while another `./sheet` is at work, and while rt is, which
+/// takes a second or more to see that nothing has changed.
 const PATIENCE: Duration = Duration::from_secs(3);
+const PATIENCE_WITH_RT: Duration = Duration::from_secs(10);
 const PAUSE: Duration = Duration::from_millis(10);
 
 /// The list of the crates: a line for each, its name before a colon or a blank.
@@ -165,7 +167,7 @@ fn check(root: &Path, program: Program, lock: &File, news: &mut News) -> Result<
         }
     });
     loop {
-        match lines.recv_timeout(PATIENCE) {
+        match lines.recv_timeout(PATIENCE_WITH_RT) {
             Ok(line) => news.line(line),
             Err(RecvTimeoutError::Timeout) => news.show(),
             Err(RecvTimeoutError::Disconnected) => break,
