@@ -4,7 +4,6 @@ mod Scopes
 pub mod Padded
 mod Table
 mod RulesWithin
-mod Cases
 pub mod Promise
 pub mod Things
 pub mod Once

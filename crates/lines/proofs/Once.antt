@@ -6,13 +6,10 @@ use mathlib.Core.Path.{◌≡◌, ap}
 use mathlib.Core.List.{List}
 use lib.ListN.{length}
 use lib.Seq.{ext_get_or}
-use Rattle.lines.specs.declared.scope.Given.{Given}
-use Rattle.lines.specs.declared.scope.Meaning.{Meaning}
-use Rattle.lines.specs.declared.scope.Meaning.TheVariants.{Nothing}
+use Rattle.std.specs.Prelude.{Option, None}
+use Rattle.lines.specs.declared.Marker.{Marker}
 use Rattle.lines.specs.Scope.{Scope}
 use Rattle.lines.specs.Values.{meaning_in}
 
-pub scope_once : (a b : List Given) → length a ≡ length b → meaning_in a ≡ meaning_in b → a ≡ b
-scope_once a b long same =
-    ext_get_or (record { meaning = Nothing }) a b long
-    (λ i l. ap (λ (m : Meaning). record { meaning = m }) (ap (λ (scope : Scope). scope i) same))
+pub scope_once : (a b : List (Option Marker)) → length a ≡ length b → meaning_in a ≡ meaning_in b → a ≡ b
+scope_once a b long same = ext_get_or None a b long (λ i l. ap (λ (scope : Scope). scope i) same)

@@ -18,115 +18,104 @@ use Rattle.lines.specs.declared.Node.{Node}
 use Rattle.lines.specs.declared.Offer.{Offer}
 use Rattle.lines.specs.declared.Node.TheVariants.{Nil, Silent, Send, Receive, Sum, Parallel, Restriction, Match, Replication, Bracket}
 use Rattle.lines.specs.declared.frames.Span.{Span}
-use Rattle.lines.specs.declared.scope.Meaning.TheVariants.{Is}
+use Rattle.lines.specs.declared.frames.Frame.{Frame}
+use Rattle.lines.specs.declared.frames.Section.TheVariants.{FirstLine, FreeNames, OfferLines, LabelLines, TreeLines}
+use Rattle.lines.specs.declared.reasons.Reason.TheVariants.{TooManyNodes, TooDeep}
+use Rattle.std.specs.Prelude.{Option, Some, Ok, Err}
 use Rattle.limits.specs.Limits.{most_nodes}
 use Rattle.text.specs.Text.{Line, byte}
-use Rattle.text.specs.Positions.{rest_at}
-use Rattle.lines.specs.Frames.{first_line, free_names, offer_lines, label_lines, tree_lines, only, to_tree, Next, Judged, faulty, fine, and_on, frame_of, frame_in}
+use Rattle.text.specs.Positions.{rest_at, bytes_at}
+use Rattle.lines.specs.Frames.{only, to_tree, is_section, Judged, and_on, frame_in, next_bytes}
 use Rattle.lines.specs.Scope.{Scope, no_names, giving, inside}
-use Rattle.lines.specs.Rules.{head_in, name_in, offer_in, node_in}
-use Rattle.lines.specs.Labels.{label_in}
+use Rattle.lines.specs.Rules.{head_of, node_in}
 use Rattle.lines.specs.Line.{first_head, next_name, next_offer, next_label, next_node}
 use Rattle.lines.specs.Promise.{Gives, OnLine, LineWhole, NodeFits, HeadWithin, NameWithin, OfferWithin, LabelWithin, NextWithin, MarkerWithin, NodeWithin, IsGiven, enclosed, ScopeWithin, NodeGood, NodeNext}
 use Rattle.lines.proofs.Table.{framing}
 use Rattle.lines.proofs.RulesWithin.{gives_cond, gives_more, on_line, head_within, name_within, next_offer_within, next_label_within, node_within}
 pub use Rattle.text.proofs.Lines.{rest_split, rest_none}
 pub use Rattle.lines.proofs.Table.{no_node, in_only}
-pub use Rattle.lines.proofs.Cases.{opening_faulty, opening_found, entry_faulty, entry_found, offering_faulty, offering_found, offering_over, labelling_faulty, labelling_found, labelling_over, step_faulty, step_found}
 
 -- ---- the next line, where some are left
 
 module _ (left : List Line) where
   pub head_given : Gives (OnLine left HeadWithin) (first_head left)
-  unfolding first_head
-  head_given = on_line left HeadWithin (only first_line) head_in (λ frame row. head_within (byte 1 frame) _)
+  head_given = on_line left HeadWithin (only FirstLine) _ (λ row is. head_within (byte 1 (next_bytes left)) (head_of (next_bytes left)))
 
   pub name_given : (h : Head) (least : ℕ) → Gives (OnLine left (NameWithin h least)) (next_name h least left)
-  unfolding next_name
   name_given h least =
-      on_line left (NameWithin h least) (only free_names) (name_in h least) (λ frame row. name_within h least (byte 1 frame) (byte 2 frame))
+      on_line left (NameWithin h least) (only FreeNames) _ (λ row is. name_within h least (byte 1 (next_bytes left)) (byte 2 (next_bytes left)))
 
   pub offer_given : (h : Head) (least : ℕ) → Gives (OnLine left (NextWithin (OfferWithin h least))) (next_offer h least left)
-  unfolding next_offer
   offer_given h least =
-      on_line left (NextWithin (OfferWithin h least)) (to_tree offer_lines) (offer_in h least)
-      (λ frame row. next_offer_within (eqb (frame_of (byte 0 frame)).section offer_lines) h least frame)
+      on_line left (NextWithin (OfferWithin h least)) (to_tree OfferLines) _
+      (λ row is. next_offer_within (is_section row.section OfferLines) h least (next_bytes left))
 
   pub label_given : (h : Head) (least : ℕ) → Gives (OnLine left (NextWithin (LabelWithin h least))) (next_label h least left)
-  unfolding next_label
   label_given h least =
-      on_line left (NextWithin (LabelWithin h least)) (to_tree label_lines) (label_in h least) (λ frame row. next_label_within _ h least frame row refl)
+      on_line left (NextWithin (LabelWithin h least)) (to_tree LabelLines) _ (λ row is. next_label_within _ h least row (next_bytes left) is refl)
 
   pub node_given : (h : Head) (given : List Marker) (scope : Scope) (depth count : ℕ) → ScopeWithin h given scope
       → Gives (OnLine left (NodeNext h given count)) (next_node depth h scope count left)
-  unfolding next_node
-  node_given h given scope depth count within = on_line left (NodeNext h given count) (only tree_lines) judge (λ frame row. judged frame)
+  node_given h given scope depth count within = on_line left (NodeNext h given count) (only TreeLines) _ (λ row is. judged row)
     where
-      judge : List ℕ → Judged Node
-      judge frame = cond (leb most_nodes count) (faulty 10) (cond (eqb depth 0) (faulty 11) (node_in h scope frame))
-
-      judged : (frame : List ℕ) → Gives (NodeNext h given count) (judge frame)
-      judged frame =
-          let own = node_within h given scope within (frame_of (byte 0 frame)).kind frame in
-          gives_cond (NodeNext h given count) (leb most_nodes count) (faulty 10) (cond (eqb depth 0) (faulty 11) (node_in h scope frame)) (λ e. omega arith)
-          (λ room. gives_cond (NodeNext h given count) (eqb depth 0) (faulty 11) (node_in h scope frame) (λ e. omega arith)
-          (λ deep. gives_more (NodeGood h given) (count < most_nodes) (leb-false most_nodes count room) (node_in h scope frame) own))
+      judged : (row : Frame) → Gives (NodeNext h given count)
+          (cond (leb most_nodes count) (Err TooManyNodes) (cond (eqb depth 0) (Err TooDeep) (node_in h scope row (next_bytes left))))
+      judged row =
+          let own = node_within h given scope within row.kind (next_bytes left) in
+          gives_cond (NodeNext h given count) (leb most_nodes count) (Err TooManyNodes) _ (λ e. omega arith)
+          (λ room. gives_cond (NodeNext h given count) (eqb depth 0) (Err TooDeep) (node_in h scope row (next_bytes left)) (λ e. omega arith)
+          (λ deep. gives_more (NodeGood h given) (count < most_nodes) (leb-false most_nodes count room) (node_in h scope row (next_bytes left)) own))
 
 -- ---- the line at a position, where something was found on it
 
 module _ (s : List ℕ) (at : ℕ) where
-  whole_frame : (span : Span) {A : Type 0} (go_on : List ℕ → Judged A) (a : A) → and_on (frame_in span (rest_at s at)) go_on ≡ fine a → LineWhole s at
+  whole_frame : (span : Span) {A : Type 0} (go_on : Frame → Judged A) (a : A) → and_on (frame_in span (rest_at s at)) go_on ≡ Ok a → LineWhole s at
   whole_frame span go_on a q = go (frame_in span (rest_at s at)) refl q
     where
-      go : (j : Judged (List ℕ)) → frame_in span (rest_at s at) ≡ j → and_on j go_on ≡ fine a → LineWhole s at
-      go (faulty n) e q = let z : ◌≡◌ {A = ℕ} 0 1 = cc in absurd (omega arith)
-      go (fine bytes) e q = let f = framing s span at bytes e in record { here = f.here; ended = f.inside }
+      go : (j : Judged Frame) → frame_in span (rest_at s at) ≡ j → and_on j go_on ≡ Ok a → LineWhole s at
+      go (Err reason) e q = cc
+      go (Ok row) e q = let f = framing s span at row e in record { here = f.here; ended = f.inside }
 
-  pub head_whole : (h : Head) → first_head (rest_at s at) ≡ fine h → LineWhole s at
-  unfolding first_head
-  head_whole h q = whole_frame (only first_line) head_in h q
+  pub head_whole : (h : Head) → first_head (rest_at s at) ≡ Ok h → LineWhole s at
+  head_whole h q = whole_frame (only FirstLine) _ h q
 
-  pub name_whole : (h : Head) (least : ℕ) (name : FreeName) → next_name h least (rest_at s at) ≡ fine name → LineWhole s at
-  unfolding next_name
-  name_whole h least name q = whole_frame (only free_names) (name_in h least) name q
+  pub name_whole : (h : Head) (least : ℕ) (name : FreeName) → next_name h least (rest_at s at) ≡ Ok name → LineWhole s at
+  name_whole h least name q = whole_frame (only FreeNames) _ name q
 
-  pub offer_whole : (h : Head) (least : ℕ) (next : Next Offer) → next_offer h least (rest_at s at) ≡ fine next → LineWhole s at
-  unfolding next_offer
-  offer_whole h least next q = whole_frame (to_tree offer_lines) (offer_in h least) next q
+  pub offer_whole : (h : Head) (least : ℕ) (next : Option Offer) → next_offer h least (rest_at s at) ≡ Ok next → LineWhole s at
+  offer_whole h least next q = whole_frame (to_tree OfferLines) _ next q
 
-  pub label_whole : (h : Head) (least : ℕ) (next : Next Label) → next_label h least (rest_at s at) ≡ fine next → LineWhole s at
-  unfolding next_label
-  label_whole h least next q = whole_frame (to_tree label_lines) (label_in h least) next q
+  pub label_whole : (h : Head) (least : ℕ) (next : Option Label) → next_label h least (rest_at s at) ≡ Ok next → LineWhole s at
+  label_whole h least next q = whole_frame (to_tree LabelLines) _ next q
 
-  pub node_fits : (depth : ℕ) (h : Head) (scope : Scope) (count : ℕ) (node : Node) → next_node depth h scope count (rest_at s at) ≡ fine node
+  pub node_fits : (depth : ℕ) (h : Head) (scope : Scope) (count : ℕ) (node : Node) → next_node depth h scope count (rest_at s at) ≡ Ok node
       → NodeFits s at depth count
-  unfolding next_node
-  node_fits depth h scope count node q = go (frame_in (only tree_lines) (rest_at s at)) q (whole_frame (only tree_lines) judge node q)
+  node_fits depth h scope count node q = go (frame_in (only TreeLines) (rest_at s at)) q (whole_frame (only TreeLines) judge node q)
     where
-      judge : List ℕ → Judged Node
-      judge frame = cond (leb most_nodes count) (faulty 10) (cond (eqb depth 0) (faulty 11) (node_in h scope frame))
+      judge : Frame → Judged Node
+      judge row = cond (leb most_nodes count) (Err TooManyNodes) (cond (eqb depth 0) (Err TooDeep) (node_in h scope row (bytes_at s at)))
 
       tested : (full none : Bool) → leb most_nodes count ≡ full → eqb depth 0 ≡ none → (j : Judged Node)
-          → cond full (faulty 10) (cond none (faulty 11) j) ≡ fine node → LineWhole s at → NodeFits s at depth count
-      tested true none ef en j q whole = let z : ◌≡◌ {A = ℕ} 0 1 = cc in absurd (omega arith)
-      tested false true ef en j q whole = let z : ◌≡◌ {A = ℕ} 0 1 = cc in absurd (omega arith)
+          → cond full (Err TooManyNodes) (cond none (Err TooDeep) j) ≡ Ok node → LineWhole s at → NodeFits s at depth count
+      tested true none ef en j q whole = cc
+      tested false true ef en j q whole = cc
       tested false false ef en j q whole =
           record { whole = whole; room = leb-false most_nodes count ef; deep = eqb-false depth 0 en }
 
-      go : (j : Judged (List ℕ)) → and_on j judge ≡ fine node → LineWhole s at → NodeFits s at depth count
-      go (faulty n) q whole = let z : ◌≡◌ {A = ℕ} 0 1 = cc in absurd (omega arith)
-      go (fine bytes) q whole = tested (leb most_nodes count) (eqb depth 0) refl refl (node_in h scope bytes) q whole
+      go : (j : Judged Frame) → and_on j judge ≡ Ok node → LineWhole s at → NodeFits s at depth count
+      go (Err reason) q whole = cc
+      go (Ok row) q whole = tested (leb most_nodes count) (eqb depth 0) refl refl (node_in h scope row (bytes_at s at)) q whole
 
 -- ---- the scope
 
 pub nothing_within : (h : Head) → ScopeWithin h [] no_names
-nothing_within h name m e = let z : ◌≡◌ {A = ℕ} 0 1 = cc in absurd (omega arith)
+nothing_within h name m e = cc
 
 pub giving_within : (h : Head) (given : List Marker) (scope : Scope) (name : ℕ) (m : Marker)
     → ScopeWithin h given scope → MarkerWithin h m → ScopeWithin h (m ∷ given) (giving name m scope)
 giving_within h given scope name m within w other n e = go (eqb other name) e
   where
-    go : (b : Bool) → cond b (Is m) (scope other) ≡ Is n → MarkerWithin h n × IsGiven (m ∷ given) n
+    go : (b : Bool) → cond b (Some m) (scope other) ≡ Some n → MarkerWithin h n × IsGiven (m ∷ given) n
     go true e = let same : n ≡ m = cc in (subst (MarkerWithin h) (sym same) w, Memᴰ.head same)
     go false e = let old = within other n e in (old.0, Memᴰ.tail old.1)
 

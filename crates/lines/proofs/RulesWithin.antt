@@ -15,8 +15,10 @@ use Rattle.lines.specs.declared.Label.{Label}
 use Rattle.lines.specs.declared.Marker.{Marker}
 use Rattle.lines.specs.declared.Node.{Node}
 use Rattle.lines.specs.declared.Node.TheVariants.{Send, Receive, Match}
-use Rattle.lines.specs.declared.scope.Meaning.{Meaning}
-use Rattle.lines.specs.declared.scope.Meaning.TheVariants.{Nothing, Is}
+use Rattle.std.specs.Prelude.{Option, Some, None, Ok, Err}
+use Rattle.lines.specs.declared.frames.Section.TheVariants.{LabelLines}
+use Rattle.lines.specs.declared.reasons.Reason.{Reason}
+use Rattle.lines.specs.declared.reasons.Reason.TheVariants.{WrongLength, FaultyLine, NotAllowed, WrongSize, OtherEdition, OutsideLimits, TooHigh, NotAscending, NoMeaning, TooManyNodes, TooDeep, TextEnds, TextGoesOn, EmptyOffer, IllFormedLabel, RepeatedLabel}
 use Rattle.lines.specs.declared.frames.Frame.{Frame}
 use Rattle.lines.specs.declared.frames.Span.{Span}
 use Rattle.lines.specs.declared.frames.Kind.{Kind}
@@ -28,15 +30,15 @@ use Rattle.limits.specs.Limits.{most_channels, most_binders, highest_level, high
 use Rattle.label_bytes.specs.Label.{is_label}
 use Rattle.label_bytes.proofs.Labels.{label_test}
 use Rattle.text.specs.Text.{Line, is_faulty, bytes_of, byte}
-use Rattle.lines.specs.Frames.{label_lines, outside, Judged, faulty, fine, and_on, Next, here, row_in, frame_for, frame_in}
+use Rattle.lines.specs.Frames.{number_of, rank, is_section, Judged, and_on, frame_for, frame_in, next_bytes}
 use Rattle.lines.specs.Scope.{Scope}
 use Rattle.lines.specs.Rules.{edition, outside_limits, head_rule, name_rule, offer_rule, offer_by, meant, pair_rule, receive_rule, restriction_rule, bracket_rule, node_by}
 use Rattle.lines.specs.Labels.{is_thing, place_among, bytes_of_label, label_of, label_rule, label_by}
-use Rattle.lines.specs.inner.Working.{row_of, IsRow}
-use Rattle.lines.specs.Promise.{Gives, OnLine, HeadWithin, NameWithin, OfferWithin, LabelWithin, NextWithin, MarkerWithin, IsGiven, ScopeWithin, NodeGood}
+use Rattle.lines.specs.inner.Working.{IsRow}
+use Rattle.lines.specs.Promise.{OfReading, Gives, OnLine, HeadWithin, NameWithin, OfferWithin, LabelWithin, NextWithin, MarkerWithin, IsGiven, ScopeWithin, NodeGood}
 use Rattle.text.proofs.Tests.{or-false}
 use Rattle.lines.proofs.Padded.{label_array}
-use Rattle.lines.proofs.Table.{is_row, label_long}
+use Rattle.lines.proofs.Table.{row_fine, label_long}
 use Rattle.lines.proofs.Things.{thing_told}
 
 -- ---- a test, and one thing judged after the other
@@ -47,51 +49,64 @@ gives_cond P false x y h k = k refl
 
 gives_on : {A B : Type 0} (P : A → Type 0) (Q : B → Type 0) (j : Judged A) (go_on : A → Judged B)
     → Gives P j → ((a : A) → P a → Gives Q (go_on a)) → Gives Q (and_on j go_on)
-gives_on P Q (faulty n) go_on h k = h
-gives_on P Q (fine a) go_on h k = k a h
+gives_on P Q (Err reason) go_on h k = h
+gives_on P Q (Ok a) go_on h k = k a h
 
 -- what holds besides
 pub gives_more : {A : Type 0} (P : A → Type 0) (Q : Type 0) → Q → (j : Judged A) → Gives P j → Gives (λ a. P a × Q) j
-gives_more P Q q (faulty n) w = w
-gives_more P Q q (fine a) w = (w, q)
+gives_more P Q q (Err reason) w = w
+gives_more P Q q (Ok a) w = (w, q)
 
 -- ---- a frame
 
-some_frame : (row : Frame) (span : Span) (frame : List ℕ) → row ≡ row_of frame → (P : List ℕ → Type 0) → (IsRow frame row → P frame)
-    → Gives P (row_in row span (length frame) frame)
-unfolding row_in
-some_frame row span frame found P h =
-    let long = leb row.least (length frame) && leb (length frame) row.most in
-    gives_cond P (outside span row.section) (faulty 3) (cond long (fine frame) (faulty 4)) (λ e. omega arith)
-    (λ e. gives_cond P long (fine frame) (faulty 4) (λ e. h (is_row row frame found e)) (λ e. omega arith))
+-- each reason has one of reading's numbers
+numbered : (reason : Reason) → OfReading (number_of reason)
+numbered WrongLength = omega arith
+numbered FaultyLine = omega arith
+numbered NotAllowed = omega arith
+numbered WrongSize = omega arith
+numbered OtherEdition = omega arith
+numbered OutsideLimits = omega arith
+numbered TooHigh = omega arith
+numbered NotAscending = omega arith
+numbered NoMeaning = omega arith
+numbered TooManyNodes = omega arith
+numbered TooDeep = omega arith
+numbered TextEnds = omega arith
+numbered TextGoesOn = omega arith
+numbered EmptyOffer = omega arith
+numbered IllFormedLabel = omega arith
+numbered RepeatedLabel = omega arith
 
 -- a frame stands on a line that is there, and is as long as its row of the table asks
-abbrev Stands : List Line → List ℕ → Type 0
-Stands left frame = (0 < length left) × IsRow frame (row_of frame)
+abbrev Stands : List Line → Frame → Type 0
+Stands left row = (0 < length left) × IsRow (next_bytes left) row
 
 some_line : (span : Span) (left : List Line) → Gives (Stands left) (frame_in span left)
-unfolding frame_in
 some_line span [] = omega arith
 some_line span (l ∷ ls) =
-    let P = Stands (l ∷ ls) in
-    let frame = bytes_of l.characters in
-    gives_cond P (is_faulty l) (faulty 2) (frame_for span frame) (λ e. omega arith)
-    (λ e. some_frame (row_of frame) span frame refl P (λ row. (omega arith, row)))
+    let bytes = bytes_of l.characters in
+    gives_cond (Stands (l ∷ ls)) (is_faulty l) (Err FaultyLine) (frame_for span bytes) (λ e. omega arith) (λ e. go (frame_for span bytes) refl)
+  where
+    go : (said : Judged Frame) → frame_for span (bytes_of l.characters) ≡ said → Gives (Stands (l ∷ ls)) said
+    go (Err reason) e = numbered reason
+    go (Ok row) e =
+        let f = row_fine span (length (bytes_of l.characters)) _ row e in
+        (omega arith, record { found = f.found_lem; long = f.long; short = f.short })
 
 -- what a rule gives for every such frame
-pub on_line : {A : Type 0} (left : List Line) (P : A → Type 0) (span : Span) (rule : List ℕ → Judged A)
-    → ((frame : List ℕ) → IsRow frame (row_of frame) → Gives P (rule frame)) → Gives (OnLine left P) (and_on (frame_in span left) rule)
+pub on_line : {A : Type 0} (left : List Line) (P : A → Type 0) (span : Span) (rule : Frame → Judged A)
+    → ((row : Frame) → IsRow (next_bytes left) row → Gives P (rule row)) → Gives (OnLine left P) (and_on (frame_in span left) rule)
 on_line left P span rule within =
     gives_on (Stands left) (OnLine left P) (frame_in span left) rule (some_line span left)
-    (λ frame stands. gives_more P (0 < length left) stands.0 (rule frame) (within frame stands.1))
+    (λ row stands. gives_more P (0 < length left) stands.0 (rule row) (within row stands.1))
 
 -- ---- the rules
 
 pub head_within : (said : ℕ) (h : Head) → Gives HeadWithin (head_rule said h)
-unfolding head_rule outside_limits
 head_within said h =
-    gives_cond HeadWithin (eqb said edition) (cond (outside_limits h) (faulty 6) (fine h)) (faulty 5)
-    (λ e. gives_cond HeadWithin (outside_limits h) (faulty 6) (fine h) (λ e. omega arith) within)
+    gives_cond HeadWithin (eqb said edition) (cond (outside_limits h) (Err OutsideLimits) (Ok h)) (Err OtherEdition)
+    (λ e. gives_cond HeadWithin (outside_limits h) (Err OutsideLimits) (Ok h) (λ e. omega arith) within)
     (λ e. omega arith)
   where
     within : outside_limits h ≡ false → HeadWithin h
@@ -110,15 +125,14 @@ head_within said h =
         }
 
 pub name_within : (h : Head) (least name channel : ℕ) → Gives (NameWithin h least) (name_rule h least name channel)
-unfolding name_rule
 name_within h least name channel =
-    gives_cond (NameWithin h least) (ltb highest_name name || leb h.channels channel) (faulty 7) later (λ e. omega arith)
-    (λ e. gives_cond (NameWithin h least) (ltb name least) (faulty 8) (fine (record { name = name; channel = channel })) (λ e. omega arith)
+    gives_cond (NameWithin h least) (ltb highest_name name || leb h.channels channel) (Err TooHigh) later (λ e. omega arith)
+    (λ e. gives_cond (NameWithin h least) (ltb name least) (Err NotAscending) (Ok (record { name = name; channel = channel })) (λ e. omega arith)
     (λ q. let a = or-false (ltb highest_name name) (leb h.channels channel) e in
     (ltb-false name least q, ltb-false highest_name name a.0, leb-false h.channels channel a.1)))
   where
     later : Judged FreeName
-    later = cond (ltb name least) (faulty 8) (fine (record { name = name; channel = channel }))
+    later = cond (ltb name least) (Err NotAscending) (Ok (record { name = name; channel = channel }))
 
 offer_fine : (h : Head) (least channel : ℕ) (set : Set) → (leb h.channels channel || not (is_narrow h.channels set)) ≡ false
     → ltb channel least ≡ false → is_none set ≡ false → OfferWithin h least (record { channel = channel; set = set })
@@ -132,16 +146,15 @@ offer_fine h least channel set high low none =
     }
 
 offer_within : (h : Head) (least channel : ℕ) (set : Set) → Gives (NextWithin (OfferWithin h least)) (offer_rule h least channel set)
-unfolding offer_rule
 offer_within h least channel set =
-    let P : Next Offer → Type 0 = NextWithin (OfferWithin h least) in
-    let found : Judged (Next Offer) = fine (here (record { channel = channel; set = set })) in
-    let some = cond (is_none set) (faulty 16) found in
-    let ascending = cond (ltb channel least) (faulty 8) some in
+    let P : Option Offer → Type 0 = NextWithin (OfferWithin h least) in
+    let found : Judged (Option Offer) = Ok (Some (record { channel = channel; set = set })) in
+    let some = cond (is_none set) (Err EmptyOffer) found in
+    let ascending = cond (ltb channel least) (Err NotAscending) some in
     let high = leb h.channels channel || not (is_narrow h.channels set) in
-    gives_cond P high (faulty 7) ascending (λ e. omega arith)
-    (λ below. gives_cond P (ltb channel least) (faulty 8) some (λ e. omega arith)
-    (λ up. gives_cond P (is_none set) (faulty 16) found (λ e. omega arith) (offer_fine h least channel set below up)))
+    gives_cond P high (Err TooHigh) ascending (λ e. omega arith)
+    (λ below. gives_cond P (ltb channel least) (Err NotAscending) some (λ e. omega arith)
+    (λ up. gives_cond P (is_none set) (Err EmptyOffer) found (λ e. omega arith) (offer_fine h least channel set below up)))
 
 -- where the offers are over, nothing is asked
 pub next_offer_within : (own : Bool) (h : Head) (least : ℕ) (frame : List ℕ) → Gives (NextWithin (OfferWithin h least)) (offer_by own h least frame)
@@ -150,16 +163,15 @@ next_offer_within false h least frame = tt
 
 label_within : (h : Head) (least : ℕ) (label : Label) → 1 ≤ label.size → label.size ≤ longest_label → length label.bytes ≡ longest_label
     → Gives (NextWithin (LabelWithin h least)) (label_rule h least label)
-unfolding label_rule
 label_within h least label some most array =
-    let P : Next Label → Type 0 = NextWithin (LabelWithin h least) in
-    let found : Judged (Next Label) = fine (here label) in
+    let P : Option Label → Type 0 = NextWithin (LabelWithin h least) in
+    let found : Judged (Option Label) = Ok (Some label) in
     let place = place_among label.kind label.number in
-    let formed = cond (is_label (bytes_of_label label)) found (faulty 17) in
-    let ascending = cond (ltb place least) (faulty 8) formed in
-    gives_cond P (is_thing h label.kind label.number) ascending (faulty 7)
-    (λ thing. gives_cond P (ltb place least) (faulty 8) formed (λ e. omega arith)
-    (λ up. gives_cond P (is_label (bytes_of_label label)) found (faulty 17) (within thing up) (λ e. omega arith)))
+    let formed = cond (is_label (bytes_of_label label)) found (Err IllFormedLabel) in
+    let ascending = cond (ltb place least) (Err NotAscending) formed in
+    gives_cond P (is_thing h label.kind label.number) ascending (Err TooHigh)
+    (λ thing. gives_cond P (ltb place least) (Err NotAscending) formed (λ e. omega arith)
+    (λ up. gives_cond P (is_label (bytes_of_label label)) found (Err IllFormedLabel) (within thing up) (λ e. omega arith)))
     (λ e. omega arith)
   where
     within : is_thing h label.kind label.number ≡ true → ltb (place_among label.kind label.number) least ≡ false
@@ -175,62 +187,58 @@ label_within h least label some most array =
         }
 
 -- where the labels are over, nothing is asked; a frame of the labels has 1 to 60 bytes more than three
-pub next_label_within : (own : Bool) (h : Head) (least : ℕ) (frame : List ℕ) → IsRow frame (row_of frame) → eqb (row_of frame).section label_lines ≡ own
+pub next_label_within : (own : Bool) (h : Head) (least : ℕ) (row : Frame) (frame : List ℕ) → IsRow frame row → is_section row.section LabelLines ≡ own
     → Gives (NextWithin (LabelWithin h least)) (label_by own h least frame)
-next_label_within true h least frame row e =
-    let long = label_long frame (row_of frame) row (eqb-true (row_of frame).section label_lines e) in
+next_label_within true h least row frame is e =
+    let long = label_long frame row is (eqb-true (rank row.section) (rank LabelLines) e) in
     let sized = length-drop 3 frame in
     label_within h least (label_of frame) (omega arith) (omega arith) (label_array frame long.1)
-next_label_within false h least frame row e = tt
+next_label_within false h least row frame is e = tt
 
 module _ (h : Head) (given : List Marker) (scope : Scope) (within : ScopeWithin h given scope) where
   gives_meant : (P : Node → Type 0) (name : ℕ) (go_on : Marker → Judged Node)
       → ((m : Marker) → MarkerWithin h m → IsGiven given m → Gives P (go_on m)) → Gives P (meant (scope name) go_on)
   gives_meant P name go_on k = go (scope name) refl
     where
-      go : (m : Meaning) → scope name ≡ m → Gives P (meant m go_on)
-      go Nothing e = omega arith
-      go (Is m) e = let w = within name m e in k m w.0 w.1
+      go : (found : Option Marker) → scope name ≡ found → Gives P (meant found go_on)
+      go None e = omega arith
+      go (Some m) e = let w = within name m e in k m w.0 w.1
 
   pair_within : (node : Marker → Marker → Node) (x y : ℕ)
       → ((m n : Marker) → MarkerWithin h m → MarkerWithin h n → IsGiven given m → IsGiven given n → NodeGood h given (node m n))
       → Gives (NodeGood h given) (pair_rule node scope x y)
-  unfolding pair_rule
   pair_within node x y good =
-      gives_cond (NodeGood h given) (ltb highest_name x || ltb highest_name y) (faulty 7) _ (λ e. omega arith)
-      (λ e. gives_meant (NodeGood h given) x (λ m. meant (scope y) λ n. fine (node m n))
-      (λ m mw mg. gives_meant (NodeGood h given) y (λ n. fine (node m n)) (λ n nw ng. good m n mw nw mg ng)))
+      gives_cond (NodeGood h given) (ltb highest_name x || ltb highest_name y) (Err TooHigh) _ (λ e. omega arith)
+      (λ e. gives_meant (NodeGood h given) x (λ m. meant (scope y) λ n. Ok (node m n))
+      (λ m mw mg. gives_meant (NodeGood h given) y (λ n. Ok (node m n)) (λ n nw ng. good m n mw nw mg ng)))
 
   receive_within : (x y binder : ℕ) → Gives (NodeGood h given) (receive_rule h scope x y binder)
-  unfolding receive_rule
   receive_within x y binder =
-      gives_cond (NodeGood h given) (ltb highest_name x || (ltb highest_name y || leb h.binders binder)) (faulty 7) _ (λ e. omega arith)
+      gives_cond (NodeGood h given) (ltb highest_name x || (ltb highest_name y || leb h.binders binder)) (Err TooHigh) _ (λ e. omega arith)
       (λ e. let a = or-false (ltb highest_name x) _ e in
       let b = or-false (ltb highest_name y) (leb h.binders binder) a.1 in
-      gives_meant (NodeGood h given) x (λ m. fine (Receive m y binder))
+      gives_meant (NodeGood h given) x (λ m. Ok (Receive m y binder))
       (λ m mw mg. ((mw, ltb-false highest_name y b.0, leb-false h.binders binder b.1), mg)))
 
   restriction_within : (x channel : ℕ) → Gives (NodeGood h given) (restriction_rule h x channel)
-  unfolding restriction_rule
   restriction_within x channel =
-      gives_cond (NodeGood h given) (ltb highest_name x || leb h.channels channel) (faulty 7) _ (λ e. omega arith)
+      gives_cond (NodeGood h given) (ltb highest_name x || leb h.channels channel) (Err TooHigh) _ (λ e. omega arith)
       (λ e. let a = or-false (ltb highest_name x) (leb h.channels channel) e in
       ((ltb-false highest_name x a.0, leb-false h.channels channel a.1), tt))
 
   bracket_within : (level : ℕ) → Gives (NodeGood h given) (bracket_rule h level)
-  unfolding bracket_rule
   bracket_within level =
-      gives_cond (NodeGood h given) (ltb h.top level) (faulty 7) _ (λ e. omega arith) (λ e. (ltb-false h.top level e, tt))
+      gives_cond (NodeGood h given) (ltb h.top level) (Err TooHigh) _ (λ e. omega arith) (λ e. (ltb-false h.top level e, tt))
 
-  pub node_within : (k : Kind) (frame : List ℕ) → Gives (NodeGood h given) (node_by k h scope frame)
-  node_within kind.NoNode frame = omega arith
-  node_within kind.Nil frame = (tt, tt)
-  node_within kind.Silent frame = (tt, tt)
-  node_within kind.Send frame = pair_within Send (byte 1 frame) (byte 2 frame) (λ m n a b c d. ((a, b), (c, d)))
-  node_within kind.Receive frame = receive_within (byte 1 frame) (byte 2 frame) (byte 3 frame)
-  node_within kind.Sum frame = (tt, tt)
-  node_within kind.Parallel frame = (tt, tt)
-  node_within kind.Restriction frame = restriction_within (byte 1 frame) (byte 2 frame)
-  node_within kind.Match frame = pair_within Match (byte 1 frame) (byte 2 frame) (λ m n a b c d. ((a, b), (c, d)))
-  node_within kind.Replication frame = (tt, tt)
-  node_within kind.Bracket frame = bracket_within (byte 1 frame)
+  pub node_within : (kind : Option Kind) (frame : List ℕ) → Gives (NodeGood h given) (node_by kind h scope frame)
+  node_within None frame = omega arith
+  node_within (Some kind.Nil) frame = (tt, tt)
+  node_within (Some kind.Silent) frame = (tt, tt)
+  node_within (Some kind.Send) frame = pair_within Send (byte 1 frame) (byte 2 frame) (λ m n a b c d. ((a, b), (c, d)))
+  node_within (Some kind.Receive) frame = receive_within (byte 1 frame) (byte 2 frame) (byte 3 frame)
+  node_within (Some kind.Sum) frame = (tt, tt)
+  node_within (Some kind.Parallel) frame = (tt, tt)
+  node_within (Some kind.Restriction) frame = restriction_within (byte 1 frame) (byte 2 frame)
+  node_within (Some kind.Match) frame = pair_within Match (byte 1 frame) (byte 2 frame) (λ m n a b c d. ((a, b), (c, d)))
+  node_within (Some kind.Replication) frame = (tt, tt)
+  node_within (Some kind.Bracket) frame = bracket_within (byte 1 frame)

@@ -17,7 +17,6 @@ use Rattle.lines.specs.Promise.{HeadWithin, IsThing}
 -- ---- the test
 
 pub thing_told : (h : Head) (kind number : ℕ) → is_thing h kind number ≡ true → IsThing h kind number
-unfolding is_thing
 thing_told h kind number e = go (eqb kind channel_kind) (eqb kind binder_kind) (eqb kind level_kind) refl refl refl e
   where
     level : (low last : Bool) → leb number h.top ≡ low → eqb number outermost ≡ last → (low || last) ≡ true → (number ≤ h.top) ⊎ (number ≡ outermost)
@@ -39,7 +38,6 @@ module _ (h : Head) (within : HeadWithin h) where
   -- as many places are kept for each kind as there may be channels
   placed : (kind number : ℕ) → IsThing h kind number
       → (place_among kind number ≡ kind * most_channels + number) × (number < most_channels) × (kind * most_channels + number < most_labels)
-  unfolding place_among
   placed kind number (inl (e, l)) = (rw (eq-eqb kind channel_kind e) (omega arith), omega arith, omega arith)
   placed kind number (inr (inl (e, l))) =
       let channel : kind ≡ channel_kind → ⊥ = λ q. omega arith in

@@ -1,7 +1,7 @@
 -- What is promised of every line: a refusal's number is one of reading's; what is found stands on a line that is whole, keeps the limits, and uses
 -- only markers that are given.
 -- Assumes nothing.
-use Rattle.std.specs.Prelude.{ℕ, ◌≤◌, ◌<◌, ◌≡◌, ◌⊎◌, ◌≢◌, length}
+use Rattle.std.specs.Prelude.{ℕ, ◌≤◌, ◌<◌, ◌≡◌, ◌⊎◌, ◌≢◌, Option, Some, None, Ok, Err, length}
 use mathlib.Core.List.{List, ◌∷◌, Memᴰ}
 use Rattle.lines.specs.declared.FreeName.{FreeName}
 use Rattle.lines.specs.declared.Head.{Head}
@@ -11,13 +11,12 @@ use Rattle.lines.specs.declared.Marker.TheVariants.{Channel, Binder}
 use Rattle.lines.specs.declared.Node.{Node}
 use Rattle.lines.specs.declared.Offer.{Offer}
 use Rattle.lines.specs.declared.Node.TheVariants.{Nil, Silent, Send, Receive, Sum, Parallel, Restriction, Match, Replication, Bracket}
-use Rattle.lines.specs.declared.scope.Meaning.TheVariants.{Is}
 use Rattle.sets.specs.Set.{Narrow, Empty}
 use Rattle.limits.specs.Limits.{most_channels, most_binders, highest_level, highest_name, most_names, most_nodes, outermost, longest_label}
 use Rattle.label_bytes.specs.Label.{IsLabel}
 use Rattle.text.specs.Text.{Line}
 use Rattle.text.specs.Positions.{end_at}
-use Rattle.lines.specs.Frames.{Judged, faulty, fine, Next, here, over}
+use Rattle.lines.specs.Frames.{number_of, Judged}
 use Rattle.lines.specs.Labels.{channel_kind, binder_kind, level_kind, place_among, bytes_of_label}
 use Rattle.lines.specs.Scope.{Scope}
 
@@ -27,8 +26,8 @@ OfReading n = (1 ≤ n) × (n ≤ 18) × (n ≢ 14) × (n ≢ 15)
 
 -- a refusal of reading, or something of which P holds
 abbrev pub Gives : {A : Type 0} → (A → Type 0) → Judged A → Type 0
-Gives P (faulty n) = OfReading n
-Gives P (fine a) = P a
+Gives P (Err reason) = OfReading (number_of reason)
+Gives P (Ok a) = P a
 
 -- and it stands on a line, the first of those that are left
 abbrev pub OnLine : {A : Type 0} → List Line → (A → Type 0) → A → Type 0
@@ -82,9 +81,9 @@ pub record LabelWithin (h : Head) (least : ℕ) (label : Label) : Type 0 where
   pub well_formed : IsLabel (bytes_of_label label)
 
 -- nothing is asked where a section is over
-abbrev pub NextWithin : {A : Type 0} → (A → Type 0) → Next A → Type 0
-NextWithin P (here a) = P a
-NextWithin P over = Unit {0}
+abbrev pub NextWithin : {A : Type 0} → (A → Type 0) → Option A → Type 0
+NextWithin P (Some a) = P a
+NextWithin P None = Unit {0}
 
 -- a channel below C, a binder below B
 abbrev pub MarkerWithin : Head → Marker → Type 0
@@ -138,7 +137,7 @@ enclosed (Bracket l) given = given
 
 -- every meaning is a marker within the limits, and given
 abbrev pub ScopeWithin : Head → List Marker → Scope → Type 0
-ScopeWithin h given scope = (name : ℕ) (m : Marker) → scope name ≡ Is m → MarkerWithin h m × IsGiven given m
+ScopeWithin h given scope = (name : ℕ) (m : Marker) → scope name ≡ Some m → MarkerWithin h m × IsGiven given m
 
 -- ---- a node on the next line
 

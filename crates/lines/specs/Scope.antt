@@ -1,24 +1,22 @@
 -- Document 01, 'Plan text': what a name means at a place of the tree.
 -- Assumes nothing.
-use Rattle.std.specs.Prelude.{ℕ, cond, List, [], ◌∷◌, eqb}
+use Rattle.std.specs.Prelude.{ℕ, cond, List, [], ◌∷◌, Option, Some, None, eqb}
 use Rattle.lines.specs.declared.Marker.{Marker}
 use Rattle.lines.specs.declared.Marker.TheVariants.{Channel, Binder}
-use Rattle.lines.specs.declared.scope.Meaning.{Meaning}
-use Rattle.lines.specs.declared.scope.Meaning.TheVariants.{Nothing, Is}
 use Rattle.lines.specs.declared.FreeName.{FreeName}
 use Rattle.lines.specs.declared.Node.{Node}
 use Rattle.lines.specs.declared.Node.TheVariants.{Nil, Silent, Send, Receive, Sum, Parallel, Restriction, Match, Replication, Bracket}
 
 -- what each name means: nothing, or its marker
 abbrev pub Scope : Type 0
-Scope = ℕ → Meaning
+Scope = ℕ → Option Marker
 
 abbrev pub no_names : Scope
-no_names name = Nothing
+no_names name = None
 
 -- a name is given a marker inside: the innermost giver wins
 abbrev pub giving : ℕ → Marker → Scope → Scope
-giving name marker scope other = cond (eqb other name) (Is marker) (scope other)
+giving name marker scope other = cond (eqb other name) (Some marker) (scope other)
 
 -- the free names give their channels
 abbrev pub naming : Scope → List FreeName → Scope

@@ -3,12 +3,11 @@ ghost use Rattle.std.specs.Prelude.{◌≡◌, ◌+◌, ◌≤◌, length};
 ghost use Rattle.limits.specs.Limits.{longest_label};
 ghost use Rattle.text.specs.Positions.{bytes_at};
 ghost use Rattle.lines.specs.Labels.{is_thing, place_among, label_of, label_rule, label_in};
-ghost use Rattle.lines.specs.Frames.{Judged};
-ghost use Rattle.lines.specs.Values.{label_line_of, no_label};
+ghost use Rattle.lines.specs.Values.{no_label};
 ghost use Rattle.lines.specs.inner.Working.{IsRow};
 
-use crate::frames::{Frame, LABEL_LINES};
-use crate::{Head, Label, LabelLine, Labelling};
+use crate::frames::{Frame, Section};
+use crate::{Head, Label, Reason};
 use limits::{BINDER_SETS, CHANNEL_SETS, LONGEST_LABEL, OUTERMOST};
 use text::{byte_in, bytes_in, size_in};
 
@@ -23,19 +22,12 @@ pub const LEVEL: u8 = 2;
 pub fn is_thing(head: Head, kind: u8, number: u8) -> bool
     ensures { result ≡ is_thing head kind number }
 {
-    if kind == CHANNEL {
-        return number < head.channels;
+    match kind {
+        CHANNEL => number < head.channels,
+        BINDER => number < head.binders,
+        LEVEL => number <= head.top || number == OUTERMOST,
+        _ => false,
     }
-    if kind == BINDER {
-        return number < head.binders;
-    }
-    if kind != LEVEL {
-        return false;
-    }
-    if number <= head.top {
-        return true;
-    }
-    number == OUTERMOST
 }
 
 // The place of a thing among all that may have a label: the channels, the binders, the levels.
@@ -43,35 +35,22 @@ pub fn place_among(kind: u8, number: u8) -> usize
     ensures { result ≡ place_among kind number }
 {
     let place = number as usize;
-    if kind == CHANNEL {
-        return place;
+    match kind {
+        CHANNEL => place,
+        BINDER => CHANNEL_SETS + place,
+        _ => CHANNEL_SETS + BINDER_SETS + place,
     }
-    if kind == BINDER {
-        return CHANNEL_SETS + place;
-    }
-    CHANNEL_SETS + BINDER_SETS + place
 }
 
-// No label: where a line has none, or where there is no line.
+// No label: where there is no line.
 pub fn no_label() -> Label
     ensures { result ≡ no_label }
 {
-    let bytes = [0u8; LONGEST_LABEL];
     Label {
         kind: 0,
         number: 0,
         size: 0,
-        bytes,
-    }
-}
-
-// A line that is refused where a label may stand.
-pub(crate) fn faulty(number: u8) -> LabelLine
-    ensures { result ≡ label_line_of (Judged.faulty number) }
-{
-    LabelLine {
-        said: Labelling::Faulty(number),
-        label: no_label(),
+        bytes: [0; LONGEST_LABEL],
     }
 }
 
@@ -80,7 +59,7 @@ fn label_of(text: &[u8], at: usize, size: usize) -> Label
     requires { (size ≤ longest_label) × (length (bytes_at text.now at) ≡ 3 + size) }
     ensures { result ≡ label_of (bytes_at text.now at) }
 {
-    let mut bytes = [0u8; LONGEST_LABEL];
+    let mut bytes = [0; LONGEST_LABEL];
     bytes_in(text, at, 3, &mut bytes[..size]);
     Label {
         kind: byte_in(text, at, 1),
@@ -91,40 +70,35 @@ fn label_of(text: &[u8], at: usize, size: usize) -> Label
 }
 
 // A label of a thing whose place has to be `least` or more.
-fn label_rule(head: Head, least: usize, label: Label) -> LabelLine
+fn label_rule(head: Head, least: usize, label: Label) -> Result<Option<Label>, Reason>
     requires { label.size ≤ length label.bytes }
-    ensures { result ≡ label_line_of (label_rule head least label) }
+    ensures { result ≡ label_rule head least label }
 {
-    let kind = label.kind;
-    let number = label.number;
-    if !is_thing(head, kind, number) {
-        return faulty(7);
+    if !is_thing(head, label.kind, label.number) {
+        return Err(Reason::TooHigh);
     }
-    if place_among(kind, number) < least {
-        return faulty(8);
+    if place_among(label.kind, label.number) < least {
+        return Err(Reason::NotAscending);
     }
-    let bytes = label.bytes;
-    let size = label.size;
-    if !label_bytes::is_label(&bytes[..size]) {
-        return faulty(17);
+    if !label_bytes::is_label(&label.bytes[..label.size]) {
+        return Err(Reason::IllFormedLabel);
     }
-    LabelLine {
-        said: Labelling::Found,
-        label,
-    }
+    Ok(Some(label))
 }
 
-// The label in the frame at `at`, of which `frame` is the table's row; or the labels are over, where the frame is of a later section.
-pub(crate) fn label_in(text: &[u8], at: usize, frame: Frame, head: Head, least: usize) -> LabelLine
+// The label in the frame at `at`, of which `frame` is the table's row; or none, where the frame is of a later section and the labels are over.
+pub(crate) fn label_in(
+    text: &[u8],
+    at: usize,
+    frame: Frame,
+    head: Head,
+    least: usize,
+) -> Result<Option<Label>, Reason>
     requires { IsRow (bytes_at text.now at) frame }
-    ensures { result ≡ label_line_of (label_in head least (bytes_at text.now at)) }
+    ensures { result ≡ label_in head least frame (bytes_at text.now at) }
 {
-    if frame.section != LABEL_LINES {
-        return LabelLine {
-            said: Labelling::Over,
-            label: no_label(),
-        };
+    if frame.section != Section::LabelLines {
+        return Ok(None);
     }
-    let label = label_of(text, at, size_in(text, at) - 3);
-    label_rule(head, least, label)
+    label_rule(head, least, label_of(text, at, size_in(text, at) - 3))
 }

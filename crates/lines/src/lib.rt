@@ -1,18 +1,16 @@
-// What one line of a plan text says, as the head's, a free name's, an offer's, a label's or a node's: a refusal's number, or what was found.
-// The way of the data: frames (the table, over a line's bytes, which the crate `text` finds), scope (what names mean), rules and labels (what a frame's
-// bytes say), and the line here. Proved: each operation answers as documents 01 and 02 judge the line at that position. It knows nothing of the lines
+// What one line of a plan text says, as the head's, a free name's, an offer's, a label's or a node's: what was found, or why it is refused.
+// The way of the data: reasons (the refusals), frames (the table, over a line's bytes, which the crate `text` finds), scope (what names mean), rules and
+// labels (what a frame's bytes say), and the line here. Proved: each operation answers as documents 01 and 02 judge the line at that position. It knows nothing of the lines
 // before and behind: a caller says which section reading stands in by the operation, and what was read before by its arguments.
 #![tactic(auto)]
 
 ghost use Rattle.std.specs.Prelude.{◌≡◌};
 ghost use Rattle.text.specs.Positions.{rest_at};
 ghost use Rattle.lines.specs.Line.{first_head, next_name, next_offer, next_label, next_node};
-ghost use Rattle.lines.specs.Values.{opening_of, entry_of, offering_of, label_line_of, step_of, meaning_in};
+ghost use Rattle.lines.specs.Values.{meaning_in};
 
-use crate::frames::{
-    FIRST_LINE, FREE_NAMES, Framed, LABEL_LINES, OFFER_LINES, TREE_LINES, frame_in, only, to_tree,
-};
-use crate::labels::{faulty, label_in};
+use crate::frames::{Section, frame_in, only, to_tree};
+use crate::labels::label_in;
 use crate::rules::{head_in, name_in, node_in, offer_in};
 use crate::scope::Scope;
 use limits::{LONGEST_LABEL, MOST_NODES};
@@ -20,11 +18,14 @@ use sets::Set;
 
 pub mod frames;
 pub mod labels;
+mod reasons;
 mod rules;
 pub mod scope;
 
+pub use reasons::Reason;
+
 // What a name stands for: a channel, or a receive's binder.
-#[derive(Clone, Copy)]
+#[derive(Clone, Copy, Debug, PartialEq, Eq)]
 pub enum Marker {
     Channel(u8),
     Binder(u8),
@@ -77,88 +78,36 @@ pub struct Label {
     pub bytes: [u8; LONGEST_LABEL],
 }
 
-// What the first line says: a refusal's number, or the head.
-#[derive(Clone, Copy)]
-pub enum Opening {
-    Faulty(u8),
-    Found(Head),
-}
-
-// What a free name's line says: a refusal's number, or the name.
-#[derive(Clone, Copy)]
-pub enum Entry {
-    Faulty(u8),
-    Found(FreeName),
-}
-
-// What a line says where an offer may stand: a refusal's number, the offer, or that the offers are over.
-#[derive(Clone, Copy)]
-pub enum Offering {
-    Faulty(u8),
-    Found(Offer),
-    Over,
-}
-
-// What a line says where a label may stand: a refusal's number, that there is a label, or that the labels are over.
-#[derive(Clone, Copy)]
-pub enum Labelling {
-    Faulty(u8),
-    Found,
-    Over,
-}
-
-// The same, with the label beside it, which is blank where there is none.
-#[derive(Clone, Copy)]
-pub struct LabelLine {
-    pub said: Labelling,
-    pub label: Label,
-}
-
-// What a node's line says: a refusal's number, or the node.
-#[derive(Clone, Copy)]
-pub enum Step {
-    Faulty(u8),
-    Found(Node),
-}
-
 // What the line at `at` says as the first line.
-pub fn first_head(text: &[u8], at: usize) -> Opening
-    ensures { result ≡ opening_of (first_head (rest_at text.now at)) }
+pub fn first_head(text: &[u8], at: usize) -> Result<Head, Reason>
+    ensures { result ≡ first_head (rest_at text.now at) }
 {
-    match frame_in(text, only(FIRST_LINE), at) {
-        Framed::Faulty(number) => Opening::Faulty(number),
-        Framed::Frame(_) => head_in(text, at),
-    }
+    frame_in(text, only(Section::FirstLine), at)?;
+    head_in(text, at)
 }
 
 // What the line at `at` says as a free name's, which has to be `least` or more.
-pub fn next_name(text: &[u8], at: usize, head: Head, least: usize) -> Entry
-    ensures { result ≡ entry_of (next_name head least (rest_at text.now at)) }
+pub fn next_name(text: &[u8], at: usize, head: Head, least: usize) -> Result<FreeName, Reason>
+    ensures { result ≡ next_name head least (rest_at text.now at) }
 {
-    match frame_in(text, only(FREE_NAMES), at) {
-        Framed::Faulty(number) => Entry::Faulty(number),
-        Framed::Frame(_) => name_in(text, at, head, least),
-    }
+    frame_in(text, only(Section::FreeNames), at)?;
+    name_in(text, at, head, least)
 }
 
-// What the line at `at` says where an offer may stand, on a channel that is `least` or more.
-pub fn next_offer(text: &[u8], at: usize, head: Head, least: usize) -> Offering
-    ensures { result ≡ offering_of (next_offer head least (rest_at text.now at)) }
+// What the line at `at` says where an offer may stand, on a channel that is `least` or more: none, where the offers are over.
+pub fn next_offer(text: &[u8], at: usize, head: Head, least: usize) -> Result<Option<Offer>, Reason>
+    ensures { result ≡ next_offer head least (rest_at text.now at) }
 {
-    match frame_in(text, to_tree(OFFER_LINES), at) {
-        Framed::Faulty(number) => Offering::Faulty(number),
-        Framed::Frame(frame) => offer_in(text, at, frame, head, least),
-    }
+    let frame = frame_in(text, to_tree(Section::OfferLines), at)?;
+    offer_in(text, at, frame, head, least)
 }
 
-// What the line at `at` says where a label may stand, of a thing whose place is `least` or more.
-pub fn next_label(text: &[u8], at: usize, head: Head, least: usize) -> LabelLine
-    ensures { result ≡ label_line_of (next_label head least (rest_at text.now at)) }
+// What the line at `at` says where a label may stand, of a thing whose place is `least` or more: none, where the labels are over.
+pub fn next_label(text: &[u8], at: usize, head: Head, least: usize) -> Result<Option<Label>, Reason>
+    ensures { result ≡ next_label head least (rest_at text.now at) }
 {
-    match frame_in(text, to_tree(LABEL_LINES), at) {
-        Framed::Faulty(number) => faulty(number),
-        Framed::Frame(frame) => label_in(text, at, frame, head, least),
-    }
+    let frame = frame_in(text, to_tree(Section::LabelLines), at)?;
+    label_in(text, at, frame, head, least)
 }
 
 // What the line at `at` says as a node's, with `depth` left and `count` nodes read.
@@ -169,19 +118,15 @@ pub fn next_node(
     head: Head,
     scope: Scope,
     count: usize,
-) -> Step
-    ensures { result ≡ step_of (next_node depth head (meaning_in scope) count (rest_at text.now at)) }
+) -> Result<Node, Reason>
+    ensures { result ≡ next_node depth head (meaning_in scope) count (rest_at text.now at) }
 {
-    match frame_in(text, only(TREE_LINES), at) {
-        Framed::Faulty(number) => Step::Faulty(number),
-        Framed::Frame(frame) => {
-            if MOST_NODES <= count {
-                return Step::Faulty(10);
-            }
-            if depth == 0 {
-                return Step::Faulty(11);
-            }
-            node_in(text, at, frame, head, scope)
-        }
+    let frame = frame_in(text, only(Section::TreeLines), at)?;
+    if MOST_NODES <= count {
+        return Err(Reason::TooManyNodes);
     }
+    if depth == 0 {
+        return Err(Reason::TooDeep);
+    }
+    node_in(text, at, frame, head, scope)
 }

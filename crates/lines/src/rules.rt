@@ -2,12 +2,12 @@
 ghost use Rattle.std.specs.Prelude.{◌≡◌, length};
 ghost use Rattle.text.specs.Positions.{bytes_at};
 ghost use Rattle.lines.specs.Rules.{outside_limits, head_of, head_in, name_rule, name_in, offer_rule, offer_in, pair_rule, receive_rule, restriction_rule, bracket_rule, node_in};
-ghost use Rattle.lines.specs.Values.{meaning_in, opening_of, entry_of, offering_of, step_of};
-ghost use Rattle.lines.specs.inner.Working.{IsRow, pair_of};
+ghost use Rattle.lines.specs.Values.{meaning_in};
+ghost use Rattle.lines.specs.inner.Working.{IsRow};
 
-use crate::frames::{Frame, Kind, OFFER_LINES};
-use crate::scope::{Meaning, Scope, look_up};
-use crate::{Entry, FreeName, Head, Marker, Node, Offer, Offering, Opening, Step};
+use crate::frames::{Frame, Kind, Section};
+use crate::scope::{Scope, look_up};
+use crate::{FreeName, Head, Marker, Node, Offer, Reason};
 use limits::{HIGHEST_LEVEL, HIGHEST_NAME, MOST_BINDERS, MOST_CHANNELS, MOST_NAMES};
 use sets::Set;
 use text::byte_in;
@@ -18,20 +18,11 @@ const EDITION: u8 = 1;
 fn outside_limits(head: Head) -> bool
     ensures { result ≡ outside_limits head }
 {
-    let channels = head.channels;
-    if channels == 0 {
-        return true;
-    }
-    if MOST_CHANNELS < channels {
-        return true;
-    }
-    if MOST_BINDERS < head.binders {
-        return true;
-    }
-    if HIGHEST_LEVEL < head.top {
-        return true;
-    }
-    MOST_NAMES < head.names as usize
+    head.channels == 0
+        || MOST_CHANNELS < head.channels
+        || MOST_BINDERS < head.binders
+        || HIGHEST_LEVEL < head.top
+        || MOST_NAMES < head.names as usize
 }
 
 // The numbers of a head, as they stand in the frame at `at`.
@@ -48,70 +39,70 @@ fn head_of(text: &[u8], at: usize) -> Head
 }
 
 // The head in the frame at `at`.
-pub(crate) fn head_in(text: &[u8], at: usize) -> Opening
+pub(crate) fn head_in(text: &[u8], at: usize) -> Result<Head, Reason>
     requires { length (bytes_at text.now at) ≡ 6 }
-    ensures { result ≡ opening_of (head_in (bytes_at text.now at)) }
+    ensures { result ≡ head_in (bytes_at text.now at) }
 {
     let head = head_of(text, at);
     if byte_in(text, at, 1) != EDITION {
-        return Opening::Faulty(5);
+        return Err(Reason::OtherEdition);
     }
     if outside_limits(head) {
-        return Opening::Faulty(6);
+        return Err(Reason::OutsideLimits);
     }
-    Opening::Found(head)
+    Ok(head)
 }
 
 // A free name and its channel, where the name has to be `least` or more.
-fn name_rule(head: Head, least: usize, name: u8, channel: u8) -> Entry
-    ensures { result ≡ entry_of (name_rule head least name channel) }
+fn name_rule(head: Head, least: usize, name: u8, channel: u8) -> Result<FreeName, Reason>
+    ensures { result ≡ name_rule head least name channel }
 {
-    if HIGHEST_NAME < name {
-        return Entry::Faulty(7);
-    }
-    if head.channels <= channel {
-        return Entry::Faulty(7);
+    if HIGHEST_NAME < name || head.channels <= channel {
+        return Err(Reason::TooHigh);
     }
     if (name as usize) < least {
-        return Entry::Faulty(8);
+        return Err(Reason::NotAscending);
     }
-    Entry::Found(FreeName { name, channel })
+    Ok(FreeName { name, channel })
 }
 
 // The free name in the frame at `at`.
-pub(crate) fn name_in(text: &[u8], at: usize, head: Head, least: usize) -> Entry
+pub(crate) fn name_in(text: &[u8], at: usize, head: Head, least: usize) -> Result<FreeName, Reason>
     requires { length (bytes_at text.now at) ≡ 3 }
-    ensures { result ≡ entry_of (name_in head least (bytes_at text.now at)) }
+    ensures { result ≡ name_in head least (bytes_at text.now at) }
 {
     name_rule(head, least, byte_in(text, at, 1), byte_in(text, at, 2))
 }
 
 // An offer of handles on a channel, which has to be `least` or more.
-fn offer_rule(head: Head, least: usize, channel: u8, set: Set) -> Offering
-    ensures { result ≡ offering_of (offer_rule head least channel set) }
+fn offer_rule(head: Head, least: usize, channel: u8, set: Set) -> Result<Option<Offer>, Reason>
+    ensures { result ≡ offer_rule head least channel set }
 {
-    if head.channels <= channel {
-        return Offering::Faulty(7);
-    }
-    if !sets::is_narrow(set, head.channels) {
-        return Offering::Faulty(7);
+    if head.channels <= channel || !sets::is_narrow(set, head.channels) {
+        return Err(Reason::TooHigh);
     }
     if (channel as usize) < least {
-        return Offering::Faulty(8);
+        return Err(Reason::NotAscending);
     }
     if sets::is_empty(set) {
-        return Offering::Faulty(16);
+        return Err(Reason::EmptyOffer);
     }
-    Offering::Found(Offer { channel, set })
+    Ok(Some(Offer { channel, set }))
 }
 
-// The offer in the frame at `at`, of which `frame` is the table's row; or the offers are over, where the frame is of a later section.
-pub(crate) fn offer_in(text: &[u8], at: usize, frame: Frame, head: Head, least: usize) -> Offering
+// The offer in the frame at `at`, of which `frame` is the table's row; or none, where the frame is of a later section and the offers are over.
+pub(crate) fn offer_in(
+    text: &[u8],
+    at: usize,
+    frame: Frame,
+    head: Head,
+    least: usize,
+) -> Result<Option<Offer>, Reason>
     requires { IsRow (bytes_at text.now at) frame }
-    ensures { result ≡ offering_of (offer_in head least (bytes_at text.now at)) }
+    ensures { result ≡ offer_in head least frame (bytes_at text.now at) }
 {
-    if frame.section != OFFER_LINES {
-        return Offering::Over;
+    if frame.section != Section::OfferLines {
+        return Ok(None);
     }
     let set = sets::of_bytes(
         byte_in(text, at, 2),
@@ -122,89 +113,70 @@ pub(crate) fn offer_in(text: &[u8], at: usize, frame: Frame, head: Head, least: 
     offer_rule(head, least, byte_in(text, at, 1), set)
 }
 
-// The node of two markers: a match or a send.
-fn pair(equal: bool, m: Marker, n: Marker) -> Node
-    ensures { result ≡ pair_of equal m n }
+// The markers of two names that a node uses.
+fn pair_rule(scope: Scope, x: u8, y: u8) -> Result<(Marker, Marker), Reason>
+    ensures { result ≡ pair_rule (λ m n. (m, n)) (meaning_in scope) x y }
 {
-    if equal {
-        Node::Match(m, n)
-    } else {
-        Node::Send(m, n)
+    if HIGHEST_NAME < x || HIGHEST_NAME < y {
+        return Err(Reason::TooHigh);
     }
-}
-
-// A match of two names, or a send.
-fn pair_rule(equal: bool, scope: Scope, x: u8, y: u8) -> Step
-    ensures { result ≡ step_of (pair_rule (pair_of equal) (meaning_in scope) x y) }
-{
-    if HIGHEST_NAME < x {
-        return Step::Faulty(7);
-    }
-    if HIGHEST_NAME < y {
-        return Step::Faulty(7);
-    }
-    let Meaning::Is(m) = look_up(scope, x) else {
-        return Step::Faulty(9);
-    };
-    let Meaning::Is(n) = look_up(scope, y) else {
-        return Step::Faulty(9);
-    };
-    Step::Found(pair(equal, m, n))
+    let m = look_up(scope, x).ok_or(Reason::NoMeaning)?;
+    let n = look_up(scope, y).ok_or(Reason::NoMeaning)?;
+    Ok((m, n))
 }
 
 // A receive: x is looked up in the scope outside.
-fn receive_rule(head: Head, scope: Scope, x: u8, y: u8, binder: u8) -> Step
-    ensures { result ≡ step_of (receive_rule head (meaning_in scope) x y binder) }
+fn receive_rule(head: Head, scope: Scope, x: u8, y: u8, binder: u8) -> Result<Node, Reason>
+    ensures { result ≡ receive_rule head (meaning_in scope) x y binder }
 {
-    if HIGHEST_NAME < x {
-        return Step::Faulty(7);
+    if HIGHEST_NAME < x || HIGHEST_NAME < y || head.binders <= binder {
+        return Err(Reason::TooHigh);
     }
-    if HIGHEST_NAME < y {
-        return Step::Faulty(7);
-    }
-    if head.binders <= binder {
-        return Step::Faulty(7);
-    }
-    let Meaning::Is(m) = look_up(scope, x) else {
-        return Step::Faulty(9);
-    };
-    Step::Found(Node::Receive(m, y, binder))
+    let m = look_up(scope, x).ok_or(Reason::NoMeaning)?;
+    Ok(Node::Receive(m, y, binder))
 }
 
 // A restriction of a name to a channel.
-fn restriction_rule(head: Head, x: u8, channel: u8) -> Step
-    ensures { result ≡ step_of (restriction_rule head x channel) }
+fn restriction_rule(head: Head, x: u8, channel: u8) -> Result<Node, Reason>
+    ensures { result ≡ restriction_rule head x channel }
 {
-    if HIGHEST_NAME < x {
-        return Step::Faulty(7);
+    if HIGHEST_NAME < x || head.channels <= channel {
+        return Err(Reason::TooHigh);
     }
-    if head.channels <= channel {
-        return Step::Faulty(7);
-    }
-    Step::Found(Node::Restriction(x, channel))
+    Ok(Node::Restriction(x, channel))
 }
 
 // A bracket with a level.
-fn bracket_rule(head: Head, level: u8) -> Step
-    ensures { result ≡ step_of (bracket_rule head level) }
+fn bracket_rule(head: Head, level: u8) -> Result<Node, Reason>
+    ensures { result ≡ bracket_rule head level }
 {
     if head.top < level {
-        return Step::Faulty(7);
+        return Err(Reason::TooHigh);
     }
-    Step::Found(Node::Bracket(level))
+    Ok(Node::Bracket(level))
 }
 
 // The node in the frame at `at`, of which `frame` is the table's row.
-pub(crate) fn node_in(text: &[u8], at: usize, frame: Frame, head: Head, scope: Scope) -> Step
+pub(crate) fn node_in(
+    text: &[u8],
+    at: usize,
+    frame: Frame,
+    head: Head,
+    scope: Scope,
+) -> Result<Node, Reason>
     requires { IsRow (bytes_at text.now at) frame }
-    ensures { result ≡ step_of (node_in head (meaning_in scope) (bytes_at text.now at)) }
+    ensures { result ≡ node_in head (meaning_in scope) frame (bytes_at text.now at) }
 {
-    let kind = frame.kind;
+    let Some(kind) = frame.kind else {
+        return Err(Reason::NotAllowed);
+    };
     match kind {
-        Kind::NoNode => Step::Faulty(3),
-        Kind::Nil => Step::Found(Node::Nil),
-        Kind::Silent => Step::Found(Node::Silent),
-        Kind::Send => pair_rule(false, scope, byte_in(text, at, 1), byte_in(text, at, 2)),
+        Kind::Nil => Ok(Node::Nil),
+        Kind::Silent => Ok(Node::Silent),
+        Kind::Send => {
+            let (x, y) = pair_rule(scope, byte_in(text, at, 1), byte_in(text, at, 2))?;
+            Ok(Node::Send(x, y))
+        }
         Kind::Receive => receive_rule(
             head,
             scope,
@@ -212,11 +184,14 @@ pub(crate) fn node_in(text: &[u8], at: usize, frame: Frame, head: Head, scope: S
             byte_in(text, at, 2),
             byte_in(text, at, 3),
         ),
-        Kind::Sum => Step::Found(Node::Sum),
-        Kind::Parallel => Step::Found(Node::Parallel),
+        Kind::Sum => Ok(Node::Sum),
+        Kind::Parallel => Ok(Node::Parallel),
         Kind::Restriction => restriction_rule(head, byte_in(text, at, 1), byte_in(text, at, 2)),
-        Kind::Match => pair_rule(true, scope, byte_in(text, at, 1), byte_in(text, at, 2)),
-        Kind::Replication => Step::Found(Node::Replication),
+        Kind::Match => {
+            let (x, y) = pair_rule(scope, byte_in(text, at, 1), byte_in(text, at, 2))?;
+            Ok(Node::Match(x, y))
+        }
+        Kind::Replication => Ok(Node::Replication),
         Kind::Bracket => bracket_rule(head, byte_in(text, at, 1)),
     }
 }

@@ -1,30 +1,21 @@
--- The frame on a line, as the code holds it: its row of the table, and the node of two markers.
+-- The frame on a line, as the code holds it: its row of the table.
 -- Assumes nothing.
-use Rattle.std.specs.Prelude.{ℕ, ◌≤◌, Bool, true, false, ◌≡◌, List, length}
-use Rattle.lines.specs.declared.Marker.{Marker}
-use Rattle.lines.specs.declared.Node.{Node}
-use Rattle.lines.specs.declared.Node.TheVariants.{Match, Send}
+use Rattle.std.specs.Prelude.{ℕ, ◌≤◌, ◌<◌, ◌≡◌, false, List, Some, length}
 use Rattle.lines.specs.declared.frames.Frame.{Frame}
-use Rattle.lines.specs.declared.frames.Framed.{Framed}
+use Rattle.lines.specs.declared.frames.Span.{Span}
 use Rattle.text.specs.Text.{byte}
-use Rattle.lines.specs.Frames.{Judged, faulty, fine, frame_of}
-
--- the row of the table for a frame's bytes
-abbrev pub row_of : List ℕ → Frame
-row_of bytes = frame_of (byte 0 bytes)
-
--- what is judged of a frame, with its row where it is fine
-abbrev pub framed_of : {A : Type 0} → (A → Frame) → Judged A → Framed
-framed_of row (faulty number) = Framed.Faulty number
-framed_of row (fine a) = Framed.Frame (row a)
+use Rattle.text.specs.Positions.{bytes_at, end_at}
+use Rattle.lines.specs.Frames.{outside, frame_of}
 
 -- a frame's row of the table, where the frame is as long as that asks
 pub record IsRow (bytes : List ℕ) (row : Frame) : Type 0 where
-  pub found : row ≡ row_of bytes
+  pub found : frame_of (byte 0 bytes) ≡ Some row
   pub long : row.least ≤ length bytes
   pub short : length bytes ≤ row.most
 
--- the node of two markers
-abbrev pub pair_of : Bool → Marker → Marker → Node
-pair_of true = Match
-pair_of false = Send
+-- the row of the frame at a position, which is allowed there: the line is there, and so is its line feed
+pub record Framing (s : List ℕ) (span : Span) (at : ℕ) (row : Frame) : Type 0 where
+  pub here : at < length s
+  pub inside : end_at s at < length s
+  pub allowed : outside span row.section ≡ false
+  pub is_row : IsRow (bytes_at s at) row
