@@ -8,13 +8,14 @@ use mathlib.Core.List.Memᴰ
 use mathlib.Core.List.{List, [], ◌∷◌, ◌++◌, append-nil, append_assoc}
 use native.Mathlib.Omega.{arith}
 use borrow.Author.Tests.{eq-eqb}
+use Rattle.std.specs.Prelude.{Option, Some, None}
 use lib.ListN.{length}
 use Rattle.limits.specs.Limits.{most_labels}
 use Rattle.text.specs.Text.{Line}
 use Rattle.text.proofs.Tests.{or-false}
 use Rattle.lines.specs.declared.Head.{Head}
 use Rattle.lines.specs.declared.Label.{Label}
-use Rattle.lines.specs.Frames.{Next, here, over}
+use Rattle.lines.specs.declared.reasons.Reason.TheVariants.{RepeatedLabel}
 use Rattle.lines.specs.Labels.{place_among, bytes_of_label}
 use Rattle.lines.specs.Line.{next_label}
 use Rattle.lines.specs.Promise.{OnLine, HeadWithin, LabelWithin, NextWithin}
@@ -22,7 +23,6 @@ use Rattle.lines.proofs.Promise.{label_given}
 use Rattle.lines.proofs.Things.{place_below}
 use Rattle.reading.specs.Plan.{Place, Outcome, refuse, Labelled, same_bytes, is_same, is_repeated, labels_on, read_labels}
 use Rattle.reading.specs.Promise.{IsNew, LabelsWithin}
-use Rattle.reading.proofs.Growing.{true_not_false}
 use Rattle.reading.proofs.TreeWithin.{Numbered, Ends, ends_judged}
 
 -- ---- a label that is not repeated
@@ -44,7 +44,7 @@ is_new (b ∷ before) label e other m kind bytes =
     let none = or-false (is_same label.kind (bytes_of_label label) b) _ e in
     let both : other ≡ b → is_same label.kind (bytes_of_label label) b ≡ true =
     λ same. is_same_lem label b (ap (λ (l : Label). l.kind) (sym same) ∙ kind) (ap bytes_of_label (sym same) ∙ bytes) in
-    ⊎_elim (λ same. true_not_false _ (both same) none.0) (λ rest. is_new before label none.1 other rest kind bytes) (Memᴰ.cases_cons m)
+    ⊎_elim (λ same. let not_both = both same in cc) (λ rest. is_new before label none.1 other rest kind bytes) (Memᴰ.cases_cons m)
 
 -- ---- one label more
 
@@ -85,14 +85,14 @@ module _ (h : Head) where
 
     on_within : (least : ℕ) (before : List Label) (place : Place) (onward : Label → Outcome Labelled) → Numbered m place
         → LabelsWithin h 0 [] before → ((label : Label) → LabelWithin h least label → IsNew before label → Ends m LabelsGood (onward label))
-        → (next : Next Label) → NextWithin (LabelWithin h least) next → Ends m LabelsGood (labels_on place before onward next)
-    on_within least before place onward numbered so_far good (here label) w =
+        → (next : Option Label) → NextWithin (LabelWithin h least) next → Ends m LabelsGood (labels_on place before onward next)
+    on_within least before place onward numbered so_far good (Some label) w =
         go (is_repeated label.kind (bytes_of_label label) before) refl
       where
-        go : (b : Bool) → is_repeated label.kind (bytes_of_label label) before ≡ b → Ends m LabelsGood (cond b (refuse place 18) (onward label))
+        go : (b : Bool) → is_repeated label.kind (bytes_of_label label) before ≡ b → Ends m LabelsGood (cond b (refuse place RepeatedLabel) (onward label))
         go true e = record { number = omega arith; line = omega arith }
         go false e = good label w (is_new before label e)
-    on_within least before place onward numbered so_far good over w =
+    on_within least before place onward numbered so_far good None w =
         (so_far, let few = few_labels within 0 [] before (omega arith) so_far in omega arith, numbered)
 
     pub labels_within : (before : List Label) (line : ℕ) (left : List Line) → LabelsWithin h 0 [] before → line + length left ≤ m

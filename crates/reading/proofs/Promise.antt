@@ -8,6 +8,7 @@ use mathlib.Core.List.{List, [], ◌∷◌}
 use native.Mathlib.Decide.{dec_le}
 use native.Mathlib.Omega.{arith}
 use lib.Dec.{ltb, eqb, lit<}
+use Rattle.std.specs.Prelude.{Ok, Err}
 use lib.ListN.{length, take}
 use lib.Seq.{take_all, length-take-le}
 use borrow.Author.Tests.{ne_eqb, lt-ltb, ltb-false}
@@ -19,7 +20,7 @@ use Rattle.lines.specs.Line.{first_head}
 use Rattle.lines.specs.Promise.{OnLine, HeadWithin}
 use Rattle.lines.proofs.Promise.{head_given, nothing_within}
 use Rattle.reading.specs.declared.Reading.{Reading}
-use Rattle.reading.specs.Plan.{Outcome, refused, read, Place, onward, read_names, read_offers, read_labels, read_tree, Plan, closed, after_head, read_plan, wrong_length, plan_in, reading_of}
+use Rattle.reading.specs.Plan.{Outcome, Place, onward, read_names, read_offers, read_labels, read_tree, Plan, closed, after_head, read_plan, plan_in, reading_of}
 use Rattle.reading.specs.Promise.{NamesWithin, given_by, PlanWithin, Kept}
 use Rattle.reading.proofs.TreeWithin.{Numbered, Ends, ends_then, ends_judged, numbered_on, names_within, OffersGood, offers_within, naming_within, TreeGood, tree_within}
 use Rattle.reading.proofs.LabelsWithin.{LabelsGood, labels_within}
@@ -80,15 +81,15 @@ plan_within m place numbered =
 
 -- every text: a refusal has one of reading's numbers and a line that fits two bytes, and a plan is within the limits
 pub kept : (s : List ℕ) → Kept (plan_in s)
-unfolding plan_in wrong_length
+unfolding plan_in
 kept s = go (eqb (length s) 0) (ltb longest (length s)) refl
   where
     order : (o : Outcome Plan) → length s ≤ longest → Ends (1 + length s) PlanWithin o → Kept o
-    order (refused f) short w = (w.number, let line = w.line in omega arith)
-    order (read p) short w = w
+    order (Err f) short w = (w.number, let line = w.line in omega arith)
+    order (Ok p) short w = w
 
     go : (a b : Bool) → ltb longest (length s) ≡ b
-        → Kept (cond (a || b) (refused (record { number = 1; line = 0 })) (read_plan (record { line = 1; left = lines_of s })))
+        → Kept (cond (a || b) (Err (record { number = 1; line = 0 })) (read_plan (record { line = 1; left = lines_of s })))
     go true b e = (omega arith, lit< tt)
     go false true e = (omega arith, lit< tt)
     go false false e =
@@ -96,19 +97,19 @@ kept s = go (eqb (length s) 0) (ltb longest (length s)) refl
         (plan_within (1 + length s) (record { line = 1; left = lines_of s }) (omega (arith, few_lines s)))
 
 -- number 0 exactly where the text is a plan
-pub number_zero : (s : List ℕ) → ((reading_of (plan_in s)).refusal.number ≡ 0) ↔ ((p : Plan) × (plan_in s ≡ read p))
+pub number_zero : (s : List ℕ) → ((reading_of (plan_in s)).refusal.number ≡ 0) ↔ ((p : Plan) × (plan_in s ≡ Ok p))
 number_zero s = (go (plan_in s) refl (kept s), λ w. ap (λ o. (reading_of o).refusal.number) w.1)
   where
-    go : (o : Outcome Plan) → plan_in s ≡ o → Kept o → (reading_of o).refusal.number ≡ 0 → (p : Plan) × (plan_in s ≡ read p)
-    go (refused f) e k z = let some = k.0.0 in absurd (omega arith)
-    go (read p) e k z = (p, e)
+    go : (o : Outcome Plan) → plan_in s ≡ o → Kept o → (reading_of o).refusal.number ≡ 0 → (p : Plan) × (plan_in s ≡ Ok p)
+    go (Err f) e k z = let some = k.0.0 in absurd (omega arith)
+    go (Ok p) e k z = (p, e)
 
 -- a text is decided by any more bytes of it than the longest text has: what follows them changes nothing
 pub cut_reads : (n : ℕ) (text : List ℕ) → longest < n → plan_in (take n text) ≡ plan_in text
-unfolding plan_in wrong_length
+unfolding plan_in
 cut_reads n text more = go (dec_le (length text) n)
   where
-    too_long : (s : List ℕ) → longest < length s → plan_in s ≡ refused (record { number = 1; line = 0 })
+    too_long : (s : List ℕ) → longest < length s → plan_in s ≡ Err (record { number = 1; line = 0 })
     too_long s h = simp (ne_eqb (length s) 0 (λ e. omega arith), lt-ltb longest (length s) h)
 
     go : Dec (length text ≤ n) → plan_in (take n text) ≡ plan_in text

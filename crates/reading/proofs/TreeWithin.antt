@@ -5,6 +5,7 @@ use Prim.Native.Nat.{ℕ, zero, suc, ◌+◌, ◌≤◌, ◌<◌, max}
 use mathlib.Core.Path.{◌≡◌, refl, ap}
 use mathlib.Core.List.{List, [], ◌∷◌, ◌++◌}
 use native.Mathlib.Omega.{arith}
+use Rattle.std.specs.Prelude.{Option, Some, None, Ok, Err}
 use lib.ListN.{length, length-append}
 use Rattle.lines.specs.declared.FreeName.{FreeName}
 use Rattle.lines.specs.declared.Head.{Head}
@@ -15,14 +16,14 @@ use Rattle.lines.specs.declared.Offer.{Offer}
 use Rattle.lines.specs.declared.Node.TheVariants.{Nil, Silent, Send, Receive, Sum, Parallel, Restriction, Match, Replication, Bracket}
 use Rattle.limits.specs.Limits.{most_nodes}
 use Rattle.text.specs.Text.{Line, rest}
-use Rattle.lines.specs.Frames.{Judged, faulty, fine, Next, here, over}
+use Rattle.lines.specs.Frames.{Judged}
 use Rattle.lines.specs.Scope.{Scope, giving, naming, inside}
 use Rattle.lines.specs.Line.{next_name, next_offer, next_node}
 use Rattle.lines.specs.Promise.{OfReading, Gives, OnLine, NameWithin, OfferWithin, NextWithin, NodeWithin, enclosed, ScopeWithin, NodeGood, NodeNext}
 use Rattle.lines.proofs.Promise.{name_given, offer_given, node_given, giving_within, inside_within}
 use Rattle.reading.specs.declared.Refusal.{Refusal}
 use Rattle.reading.specs.Tree.{Tree, silent, send, receive, sum, parallel, restriction, match, replication, bracket, listing, depth}
-use Rattle.reading.specs.Plan.{Outcome, refused, read, Place, onward, judged, and_then, read_names, Offered, offers_from, read_offers, Grown, Reader, one, two, grow, read_tree}
+use Rattle.reading.specs.Plan.{Outcome, Place, onward, judged, and_then, read_names, Offered, offers_from, read_offers, Grown, Reader, one, two, grow, read_tree}
 use Rattle.reading.specs.Promise.{NamesWithin, OffersWithin, EachWithin, Scoped, given_by}
 
 -- ---- what reading ends in, where lines are numbered up to m
@@ -36,18 +37,18 @@ abbrev pub Numbered : ℕ → Place → Type 0
 Numbered m place = place.line + length place.left ≤ m
 
 abbrev pub Ends : {A : Type 0} → ℕ → (A → Type 0) → Outcome A → Type 0
-Ends m P (refused f) = InOrder m f
-Ends m P (read a) = P a
+Ends m P (Err f) = InOrder m f
+Ends m P (Ok a) = P a
 
 pub ends_then : {A B : Type 0} (m : ℕ) (P : A → Type 0) (Q : B → Type 0) (o : Outcome A) (go_on : A → Outcome B)
     → Ends m P o → ((a : A) → P a → Ends m Q (go_on a)) → Ends m Q (and_then o go_on)
-ends_then m P Q (refused f) go_on h k = h
-ends_then m P Q (read a) go_on h k = k a h
+ends_then m P Q (Err f) go_on h k = h
+ends_then m P Q (Ok a) go_on h k = k a h
 
 pub ends_judged : {A B : Type 0} (m : ℕ) (P : A → Type 0) (Q : B → Type 0) (place : Place) (j : Judged A) (go_on : A → Outcome B)
     → Numbered m place → Gives P j → ((a : A) → P a → Ends m Q (go_on a)) → Ends m Q (judged place j go_on)
-ends_judged m P Q place (faulty n) go_on numbered h k = record { number = h; line = omega arith }
-ends_judged m P Q place (fine a) go_on numbered h k = k a h
+ends_judged m P Q place (Err reason) go_on numbered h k = record { number = h; line = omega arith }
+ends_judged m P Q place (Ok a) go_on numbered h k = k a h
 
 pub numbered_on : (m : ℕ) (place : Place) → 0 < length place.left → Numbered m place → Numbered m (onward place)
 numbered_on m place some numbered = go place.left some numbered
@@ -77,10 +78,10 @@ module _ (m : ℕ) (h : Head) where
 
   from_within : (least : ℕ) (place : Place) (behind : Offer → Outcome Offered) → Numbered m place
       → ((offer : Offer) → OfferWithin h least offer → Ends m (OffersGood (offer.channel + 1)) (behind offer))
-      → (next : Next Offer) → NextWithin (OfferWithin h least) next → Ends m (OffersGood least) (offers_from place behind next)
-  from_within least place behind numbered good (here offer) w =
+      → (next : Option Offer) → NextWithin (OfferWithin h least) next → Ends m (OffersGood least) (offers_from place behind next)
+  from_within least place behind numbered good (Some offer) w =
       ends_then m (OffersGood (offer.channel + 1)) (OffersGood least) (behind offer) _ (good offer w) (λ o g. ((w, g.0), g.1))
-  from_within least place behind numbered good over w = (tt, numbered)
+  from_within least place behind numbered good None w = (tt, numbered)
 
   pub offers_within : (least line : ℕ) (left : List Line) → line + length left ≤ m → Ends m (OffersGood least) (read_offers h least line left)
   unfolding read_offers

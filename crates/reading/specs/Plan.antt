@@ -1,30 +1,30 @@
 -- Document 01, 'Plan text' and 'Refusal numbers', and document 02's orders 1 and 2: from a text to a plan or its one refusal, line by line in order;
 -- what one line says is the crate `lines`.
 -- Assumes nothing.
-use Rattle.std.specs.Prelude.{ℕ, zero, suc, ◌+◌, Bool, true, false, cond, ◌&&◌, ◌||◌, List, [], ◌∷◌, ◌++◌, map, length, replicate, set, ltb, eqb}
+use Rattle.std.specs.Prelude.{ℕ, zero, suc, ◌+◌, Bool, true, false, cond, ◌&&◌, ◌||◌, List, [], ◌∷◌, ◌++◌, Option, Some, None, Result, Ok, Err, length, replicate, set, ltb, eqb}
 use Rattle.lines.specs.declared.FreeName.{FreeName}
 use Rattle.lines.specs.declared.Head.{Head}
 use Rattle.lines.specs.declared.Label.{Label}
 use Rattle.lines.specs.declared.Node.{Node}
 use Rattle.lines.specs.declared.Offer.{Offer}
+use Rattle.lines.specs.declared.reasons.Reason.{Reason}
+use Rattle.lines.specs.declared.reasons.Reason.TheVariants.{WrongLength, TooDeep, TextEnds, TextGoesOn, RepeatedLabel}
 use Rattle.lines.specs.declared.Node.TheVariants.{Nil, Silent, Send, Receive, Sum, Parallel, Restriction, Match, Replication, Bracket}
 use Rattle.sets.specs.Rows.{SetRow, empty_row}
 use Rattle.limits.specs.Limits.{longest, most_channels, most_names, most_labels, most_nodes, most_depth}
 use Rattle.text.specs.Text.{Line, lines_of, rest}
-use Rattle.lines.specs.Frames.{Judged, faulty, fine, Next, here, over}
+use Rattle.lines.specs.Frames.{number_of, Judged}
 use Rattle.lines.specs.Scope.{Scope, no_names, naming, inside}
 use Rattle.lines.specs.Labels.{place_among, bytes_of_label}
 use Rattle.lines.specs.Line.{first_head, next_name, next_offer, next_label, next_node}
 use Rattle.lines.specs.Values.{padded, no_label}
 use Rattle.reading.specs.declared.Reading.{Reading}
 use Rattle.reading.specs.declared.Refusal.{Refusal}
-use Rattle.reading.specs.declared.Slot.{Slot}
 use Rattle.reading.specs.Tree.{Tree, nil, silent, send, receive, sum, parallel, restriction, match, replication, bracket, listing}
 
--- what reading ends in: a refusal, or what was read
-pub data Outcome (A : Type 0) : Type 0 where
-  refused : Refusal → Outcome A
-  read : A → Outcome A
+-- what reading ends in: what was read, or a refusal
+abbrev pub Outcome : Type 0 → Type 0
+Outcome A = Result A Refusal
 
 -- where reading stands: the lines that are left, and the number of the first of them
 pub record Place : Type 0 where
@@ -36,17 +36,17 @@ abbrev pub onward : Place → Place
 onward place = record { line = place.line + 1; left = rest place.left }
 
 -- a refusal, at the line where reading stands
-abbrev pub refuse : {A : Type 0} → Place → ℕ → Outcome A
-refuse place number = refused (record { number = number; line = place.line })
+abbrev pub refuse : {A : Type 0} → Place → Reason → Outcome A
+refuse place reason = Err (record { number = number_of reason; line = place.line })
 
 -- what is judged of the line where reading stands: refused there, or gone on with
 abbrev pub judged : {A B : Type 0} → Place → Judged A → (A → Outcome B) → Outcome B
-judged place (faulty number) go_on = refuse place number
-judged place (fine a) go_on = go_on a
+judged place (Err reason) go_on = refuse place reason
+judged place (Ok a) go_on = go_on a
 
 abbrev pub and_then : {A B : Type 0} → Outcome A → (A → Outcome B) → Outcome B
-and_then (refused f) go_on = refused f
-and_then (read a) go_on = go_on a
+and_then (Err f) go_on = Err f
+and_then (Ok a) go_on = go_on a
 
 -- ---- the free names
 
@@ -60,10 +60,10 @@ before f n = record { names = f ∷ n.names; after = n.after }
 
 -- `many` free names, each `least` or more, strictly ascending
 unfoldable pub read_names : ℕ → Head → ℕ → Place → Outcome Named
-read_names zero h least place = read (record { names = []; after = place })
+read_names zero h least place = Ok (record { names = []; after = place })
 read_names (suc many) h least place =
     judged place (next_name h least place.left) λ name.
-    and_then (read_names many h (name.name + 1) (onward place)) λ named. read (before name named)
+    and_then (read_names many h (name.name + 1) (onward place)) λ named. Ok (before name named)
 
 -- ---- the offers
 
@@ -73,15 +73,15 @@ pub record Offered : Type 0 where
   pub after : Place
 
 -- an offer and those behind it; none, where the offers are over
-abbrev pub offers_from : Place → (Offer → Outcome Offered) → Next Offer → Outcome Offered
-offers_from place behind (here offer) =
-    and_then (behind offer) λ offered. read (record { offers = offer ∷ offered.offers; after = offered.after })
-offers_from place behind over = read (record { offers = []; after = place })
+abbrev pub offers_from : Place → (Offer → Outcome Offered) → Option Offer → Outcome Offered
+offers_from place behind (Some offer) =
+    and_then (behind offer) λ offered. Ok (record { offers = offer ∷ offered.offers; after = offered.after })
+offers_from place behind None = Ok (record { offers = []; after = place })
 
 -- offers on channels that are `least` or more, strictly ascending, as many as stand on these lines, the first of which has the number `line`; 12 where
 -- none is left
 unfoldable pub read_offers : Head → ℕ → ℕ → List Line → Outcome Offered
-read_offers h least line [] = refuse (record { line = line; left = [] }) 12
+read_offers h least line [] = refuse (record { line = line; left = [] }) TextEnds
 read_offers h least line (l ∷ ls) =
     let place : Place = record { line = line; left = l ∷ ls } in
     judged place (next_offer h least (l ∷ ls)) (offers_from place λ offer. read_offers h (offer.channel + 1) (line + 1) ls)
@@ -110,16 +110,16 @@ pub record Labelled : Type 0 where
   pub after : Place
 
 -- a label behind those before it, and then the rest, or 18; no more, where the labels are over
-abbrev pub labels_on : Place → List Label → (Label → Outcome Labelled) → Next Label → Outcome Labelled
-labels_on place so_far behind (here label) =
+abbrev pub labels_on : Place → List Label → (Label → Outcome Labelled) → Option Label → Outcome Labelled
+labels_on place so_far behind (Some label) =
     let more = behind label in
-    cond (is_repeated label.kind (bytes_of_label label) so_far) (refuse place 18) more
-labels_on place so_far behind over = read (record { labels = so_far; after = place })
+    cond (is_repeated label.kind (bytes_of_label label) so_far) (refuse place RepeatedLabel) more
+labels_on place so_far behind None = Ok (record { labels = so_far; after = place })
 
 -- the labels `so_far`, and behind them those that stand on these lines, the first of which has the number `line`: of things whose places are `least`
 -- or more, strictly ascending; 12 where no line is left
 unfoldable pub read_labels : Head → ℕ → List Label → ℕ → List Line → Outcome Labelled
-read_labels h least so_far line [] = refuse (record { line = line; left = [] }) 12
+read_labels h least so_far line [] = refuse (record { line = line; left = [] }) TextEnds
 read_labels h least so_far line (l ∷ ls) =
     let place : Place = record { line = line; left = l ∷ ls } in
     judged place (next_label h least (l ∷ ls))
@@ -139,7 +139,7 @@ Reader = ℕ → Place → Outcome Grown
 -- one branch
 abbrev pub one : (Tree → Tree) → Reader → Reader
 one node branch count place =
-    and_then (branch count place) λ g. read (record { tree = node g.tree; after = g.after })
+    and_then (branch count place) λ g. Ok (record { tree = node g.tree; after = g.after })
 
 -- two branches, the second where the first ended
 abbrev pub two : (Tree → Tree → Tree) → Reader → Reader
@@ -148,7 +148,7 @@ two node branch count place =
 
 -- a node with its branches
 unfoldable pub grow : Node → Reader → Reader
-grow Nil branch = λ count place. read (record { tree = nil; after = place })
+grow Nil branch = λ count place. Ok (record { tree = nil; after = place })
 grow Silent branch = one silent branch
 grow (Send x y) branch = one (send x y) branch
 grow (Receive x y b) branch = one (receive x y b) branch
@@ -161,7 +161,7 @@ grow (Bracket l) branch = one (bracket l) branch
 
 -- a tree of at most so much depth
 unfoldable pub read_tree : ℕ → Head → Scope → Reader
-read_tree zero h scope count place = judged place (next_node zero h scope count place.left) λ node. refuse place 11
+read_tree zero h scope count place = judged place (next_node zero h scope count place.left) λ node. refuse place TooDeep
 read_tree (suc depth) h scope count place =
     judged place (next_node (suc depth) h scope count place.left) λ node.
     grow node (read_tree depth h (inside node scope)) (count + 1) (onward place)
@@ -178,8 +178,8 @@ pub record Plan : Type 0 where
 
 -- the tree has closed: 13 where a line is left, without looking at it
 abbrev pub closed : Place → List Line → Plan → Outcome Plan
-closed place [] plan = read plan
-closed place (l ∷ ls) plan = refuse place 13
+closed place [] plan = Ok plan
+closed place (l ∷ ls) plan = refuse place TextGoesOn
 
 -- what follows the head: the free names, the offers, the labels, the tree, and nothing more
 unfoldable pub after_head : Head → Place → Outcome Plan
@@ -195,23 +195,20 @@ unfoldable pub read_plan : Place → Outcome Plan
 read_plan place = judged place (first_head place.left) λ h. after_head h (onward place)
 
 -- a text is empty or too long
-unfoldable pub wrong_length : ℕ → Bool
+abbrev pub wrong_length : ℕ → Bool
 wrong_length size = eqb size 0 || ltb longest size
 
 -- 1 first of all, with line 0; then the lines in order, from number 1
 unfoldable pub plan_in : List ℕ → Outcome Plan
 plan_in text =
     cond (wrong_length (length text))
-    (refused (record { number = 1; line = 0 }))
+    (refuse (record { line = 0; left = [] }) WrongLength)
     (read_plan (record { line = 1; left = lines_of text }))
 
 -- ---- what the reader returns
 
 abbrev pub no_name : FreeName
 no_name = record { name = 0; channel = 0 }
-
-abbrev pub slot : Node → Slot
-slot n = record { node = n }
 
 abbrev pub no_head : Head
 no_head = record { channels = 0; binders = 0; top = 0; names = 0 }
@@ -230,7 +227,7 @@ offer_row = laying (empty_row most_channels)
 
 -- a refused text gives nothing read
 abbrev pub reading_of : Outcome Plan → Reading
-reading_of (refused f) =
+reading_of (Err f) =
     record {
       refusal = f;
       head = no_head;
@@ -239,9 +236,9 @@ reading_of (refused f) =
       labelled = 0;
       labels = replicate most_labels no_label;
       count = 0;
-      nodes = replicate most_nodes (slot Nil);
+      nodes = replicate most_nodes Nil;
     }
-reading_of (read p) =
+reading_of (Ok p) =
     record {
       refusal = no_refusal;
       head = p.head;
@@ -250,5 +247,5 @@ reading_of (read p) =
       labelled = length p.labels;
       labels = padded most_labels no_label p.labels;
       count = length (listing p.tree);
-      nodes = padded most_nodes (slot Nil) (map slot (listing p.tree));
+      nodes = padded most_nodes Nil (listing p.tree);
     }

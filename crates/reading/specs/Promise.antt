@@ -2,7 +2,7 @@
 -- offers are below C, ascend and are not empty, its labels are well formed, ascend and are told apart within a kind, and every marker in it is that of a
 -- free name, of an enclosing restriction or of an enclosing receive.
 -- Assumes nothing.
-use Rattle.std.specs.Prelude.{ℕ, ◌+◌, ◌^◌, ◌≤◌, ◌<◌, ◌≡◌, length}
+use Rattle.std.specs.Prelude.{ℕ, ◌+◌, ◌^◌, ◌≤◌, ◌<◌, ◌≡◌, Ok, Err, length}
 use mathlib.Core.List.{List, [], ◌∷◌, ◌++◌, Memᴰ}
 use Rattle.lines.specs.declared.FreeName.{FreeName}
 use Rattle.lines.specs.declared.Head.{Head}
@@ -15,7 +15,7 @@ use Rattle.limits.specs.Limits.{most_labels, most_nodes, most_depth}
 use Rattle.lines.specs.Labels.{place_among, bytes_of_label}
 use Rattle.lines.specs.Promise.{OfReading, HeadWithin, NameWithin, OfferWithin, LabelWithin, NodeWithin, IsGiven}
 use Rattle.reading.specs.Tree.{Tree, nil, silent, send, receive, sum, parallel, restriction, match, replication, bracket, listing, depth}
-use Rattle.reading.specs.Plan.{Outcome, refused, read, Plan}
+use Rattle.reading.specs.Plan.{Outcome, Plan}
 
 -- ---- the limits
 
@@ -82,5 +82,5 @@ pub record PlanWithin (p : Plan) : Type 0 where
   pub scoped : Scoped (given_by p.names []) p.tree
 
 abbrev pub Kept : Outcome Plan → Type 0
-Kept (refused f) = OfReading f.number × (f.line < 2 ^ 16)
-Kept (read p) = PlanWithin p
+Kept (Err f) = OfReading f.number × (f.line < 2 ^ 16)
+Kept (Ok p) = PlanWithin p

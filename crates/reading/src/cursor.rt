@@ -1,9 +1,11 @@
 // Where reading stands in the text, and the refusal there.
 ghost use Rattle.std.specs.Prelude.{◌≡◌, ◌<◌, length};
 ghost use Rattle.text.specs.Positions.{end_at};
+ghost use Rattle.lines.specs.Frames.{number_of};
 ghost use Rattle.reading.specs.inner.Working.{StandsIn, Past};
 
 use crate::Refusal;
+use lines::Reason;
 use text::line_end;
 
 // The position of a line's start, and the line's number.
@@ -24,12 +26,12 @@ pub(crate) fn past(text: &[u8], cursor: Cursor) -> Cursor
     }
 }
 
-// The refusal with a number, at the line where reading stands.
-pub(crate) fn refuse(cursor: Cursor, number: u8) -> Refusal
-    ensures { result ≡ record { number = number; line = cursor.line } }
+// The refusal for a reason, at the line where reading stands.
+pub(crate) fn refuse(cursor: Cursor, reason: Reason) -> Refusal
+    ensures { result ≡ record { number = number_of reason; line = cursor.line } }
 {
     Refusal {
-        number,
+        number: reason.number(),
         line: cursor.line,
     }
 }

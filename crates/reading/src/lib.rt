@@ -3,20 +3,19 @@
 // whole text here. Proved: `read` returns the document's reading of the text.
 #![tactic(auto)]
 
-ghost use Rattle.std.specs.Prelude.{◌≡◌};
+ghost use Rattle.std.specs.Prelude.{◌≡◌, Err};
 ghost use Rattle.lines.specs.Promise.{HeadWithin};
-ghost use Rattle.reading.specs.Plan.{Outcome, wrong_length, after_head, plan_in, reading_of};
-ghost use Rattle.reading.specs.inner.Working.{StandsIn, place_at, FreshNames, FreshOffers, FreshLabels, FreshState};
+ghost use Rattle.reading.specs.Plan.{wrong_length, after_head, plan_in, reading_of};
+ghost use Rattle.reading.specs.inner.Working.{StandsIn, place_at, reads};
 
 use crate::cursor::{Cursor, past, refuse};
-use crate::labels::{Labels, read_labels};
-use crate::names::{Names, read_names};
-use crate::offers::{Offers, read_offers};
-use crate::tree::{State, read_node};
+use crate::labels::{fresh_labels, read_labels};
+use crate::names::{fresh_names, read_names};
+use crate::offers::{fresh_offers, read_offers};
+use crate::tree::{fresh_state, read_node};
 use limits::{CHANNEL_SETS, LONGEST, MOST_DEPTH, MOST_LABELS, MOST_NAMES, MOST_NODES};
 use lines::labels::no_label;
-use lines::scope::no_names;
-use lines::{FreeName, Head, Label, Node, Opening, first_head};
+use lines::{FreeName, Head, Label, Node, Reason, first_head};
 use sets::Set;
 
 mod cursor;
@@ -24,12 +23,6 @@ mod labels;
 mod names;
 mod offers;
 mod tree;
-
-// A place for one node.
-#[derive(Clone, Copy)]
-pub struct Slot {
-    pub node: Node,
-}
 
 // Why a text is refused, and on which line; number 0 where it isn't.
 #[derive(Clone, Copy)]
@@ -49,31 +42,17 @@ pub struct Reading {
     pub labelled: usize,
     pub labels: [Label; MOST_LABELS],
     pub count: usize,
-    pub nodes: [Slot; MOST_NODES],
-}
-
-// No refusal.
-fn no_refusal() -> Refusal
-    ensures { result ≡ record { number = 0; line = 0 } }
-{
-    Refusal { number: 0, line: 0 }
+    pub nodes: [Node; MOST_NODES],
 }
 
 // What a refused text says: nothing.
 fn refused(refusal: Refusal) -> Reading
-    ensures { result ≡ reading_of (Outcome.refused refusal) }
+    ensures { result ≡ reading_of (Err refusal) }
 {
     let name = FreeName {
         name: 0,
         channel: 0,
     };
-    let names = [name; MOST_NAMES];
-    let none = sets::empty();
-    let offers = [none; CHANNEL_SETS];
-    let label = no_label();
-    let labels = [label; MOST_LABELS];
-    let slot = Slot { node: Node::Nil };
-    let nodes = [slot; MOST_NODES];
     Reading {
         refusal,
         head: Head {
@@ -82,142 +61,76 @@ fn refused(refusal: Refusal) -> Reading
             top: 0,
             names: 0,
         },
-        names,
-        offers,
+        names: [name; MOST_NAMES],
+        offers: [sets::empty(); CHANNEL_SETS],
         labelled: 0,
-        labels,
+        labels: [no_label(); MOST_LABELS],
         count: 0,
-        nodes,
-    }
-}
-
-// No free name yet.
-fn fresh_names(cursor: Cursor) -> Names
-    ensures { FreshNames cursor result }
-{
-    let name = FreeName {
-        name: 0,
-        channel: 0,
-    };
-    let names = [name; MOST_NAMES];
-    Names {
-        good: true,
-        refusal: no_refusal(),
-        cursor,
-        count: 0,
-        names,
-        scope: no_names(),
-    }
-}
-
-// No offer yet.
-fn fresh_offers(cursor: Cursor) -> Offers
-    ensures { FreshOffers cursor result }
-{
-    let none = sets::empty();
-    let row = [none; CHANNEL_SETS];
-    Offers {
-        good: true,
-        refusal: no_refusal(),
-        cursor,
-        row,
-    }
-}
-
-// No label yet.
-fn fresh_labels(cursor: Cursor) -> Labels
-    ensures { FreshLabels cursor result }
-{
-    let label = no_label();
-    let labels = [label; MOST_LABELS];
-    Labels {
-        good: true,
-        refusal: no_refusal(),
-        cursor,
-        least: 0,
-        count: 0,
-        labels,
-    }
-}
-
-// No node yet.
-fn fresh_state(cursor: Cursor) -> State
-    ensures { FreshState cursor result }
-{
-    let slot = Slot { node: Node::Nil };
-    let nodes = [slot; MOST_NODES];
-    State {
-        good: true,
-        refusal: no_refusal(),
-        cursor,
-        count: 0,
-        nodes,
+        nodes: [Node::Nil; MOST_NODES],
     }
 }
 
 // What follows the head.
-fn after_head(text: &[u8], head: Head, cursor: Cursor) -> Reading
+fn after_head(text: &[u8], head: Head, cursor: Cursor) -> Result<Reading, Refusal>
     requires { HeadWithin head × StandsIn text.now cursor }
-    ensures { result ≡ reading_of (after_head head (place_at text.now cursor)) }
+    ensures { result ≡ reads (after_head head (place_at text.now cursor)) }
 {
-    let names = read_names(text, head, head.names as usize, 0, fresh_names(cursor));
-    if !names.good {
-        return refused(names.refusal);
-    }
-    let offers = read_offers(text, head, 0, fresh_offers(names.cursor));
-    if !offers.good {
-        return refused(offers.refusal);
-    }
-    let labels = read_labels(text, head, fresh_labels(offers.cursor));
-    if !labels.good {
-        return refused(labels.refusal);
-    }
-    let scope = names.scope;
-    let state = read_node(text, head, scope, MOST_DEPTH, fresh_state(labels.cursor));
-    if !state.good {
-        return refused(state.refusal);
-    }
-    let end = state.cursor;
-    if end.at < text.len() {
-        return refused(refuse(end, 13));
-    }
-    let listed = names.names;
-    let offered = offers.row;
-    let shown = labels.labels;
-    let nodes = state.nodes;
-    Reading {
-        refusal: no_refusal(),
+    let named = read_names(text, head, head.names as usize, 0, fresh_names(cursor))?;
+    let offered = read_offers(text, head, 0, fresh_offers(named.cursor))?;
+    let labelled = read_labels(text, head, fresh_labels(offered.cursor))?;
+    let tree = read_node(
+        text,
         head,
-        names: listed,
-        offers: offered,
-        labelled: labels.count,
-        labels: shown,
-        count: state.count,
-        nodes,
+        named.scope,
+        MOST_DEPTH,
+        fresh_state(labelled.cursor),
+    )?;
+    if tree.cursor.at < text.len() {
+        return Err(refuse(tree.cursor, Reason::TextGoesOn));
     }
+    let names = named.names;
+    let offers = offered.row;
+    let labels = labelled.labels;
+    let nodes = tree.nodes;
+    Ok(Reading {
+        refusal: Refusal { number: 0, line: 0 },
+        head,
+        names,
+        offers,
+        labelled: labelled.count,
+        labels,
+        count: tree.count,
+        nodes,
+    })
 }
 
 // Whether a text of so many bytes is empty or too long.
 fn wrong_length(size: usize) -> bool
     ensures { result ≡ wrong_length size }
 {
-    if size == 0 {
-        return true;
+    size == 0 || LONGEST < size
+}
+
+// What a text says that is a plan, or why it is refused.
+fn read_plan(text: &[u8]) -> Result<Reading, Refusal>
+    ensures { result ≡ reads (plan_in text.now) }
+{
+    if wrong_length(text.len()) {
+        return Err(refuse(Cursor { at: 0, line: 0 }, Reason::WrongLength));
     }
-    LONGEST < size
+    let start = Cursor { at: 0, line: 1 };
+    match first_head(text, 0) {
+        Err(reason) => Err(refuse(start, reason)),
+        Ok(head) => after_head(text, head, past(text, start)),
+    }
 }
 
 // What a text says: the document's reading of it.
 pub fn read(text: &[u8]) -> Reading
     ensures { result ≡ reading_of (plan_in text.now) }
 {
-    if wrong_length(text.len()) {
-        let nowhere = Cursor { at: 0, line: 0 };
-        return refused(refuse(nowhere, 1));
-    }
-    let start = Cursor { at: 0, line: 1 };
-    match first_head(text, 0) {
-        Opening::Faulty(number) => refused(refuse(start, number)),
-        Opening::Found(head) => after_head(text, head, past(text, start)),
+    match read_plan(text) {
+        Err(refusal) => refused(refusal),
+        Ok(reading) => reading,
     }
 }

@@ -9,9 +9,9 @@ use Rattle.reading.specs.Plan.{read_labels}
 use Rattle.reading.proofs.Labelling.{SoFar}
 use Rattle.reading.proofs.labels.read_labels.Given as goal
 
-abbrev pub invariant-loop-number : goal.invariant-loop-number
-invariant-loop-number l =
+abbrev pub invariant-loop-reason : goal.invariant-loop-reason
+invariant-loop-reason l =
     SoFar l.text l.head (read_labels l.head 0 [] l.initial.state.cursor.line (rest_at l.text l.initial.state.cursor.at)) l.state
 
-abbrev pub decreases-loop-number : goal.decreases-loop-number
-decreases-loop-number l = length l.text - l.state.cursor.at
+abbrev pub decreases-loop-reason : goal.decreases-loop-reason
+decreases-loop-reason l = length l.text - l.state.cursor.at

@@ -5,26 +5,18 @@ use Rattle.reading.proofs.names.+read_names.Goals as goal
 
 pub returns-then-many-eq0 : goal.returns-then-many-eq0
 returns-then-many-eq0 t c =
-    names_none c.args.text.now c.args.head _ _ c.args.state c.args.state c.if-many-eq0.true c.requires.0 c.requires.2
+    names_none c.args.text.now c.args.head _ _ c.args.state c.if-many-eq0.true c.requires.0
 
-pub past-next-requires : goal.past-next-requires
-past-next-requires t c =
-    let more = c.if-many-eq0.false in
-    let found = c.in-Found.is in
-    let st = c.args.state in
-    let whole = name_there c.args.text.now c.args.head c.args.many c.args.least st st more _ c.next_name.ensures _ found in
+pub past-more-requires : goal.past-more-requires
+past-more-requires t c =
+    let whole = name_there c.args.text.now c.args.head _ _ c.args.state c.if-many-eq0.false _ c.in-Ok.ensures in
     (c.requires.0, whole.ended)
 
-pub returns-in-Faulty : goal.returns-in-Faulty
-returns-in-Faulty t c =
-    let more = c.if-many-eq0.false in
-    let faulty = c.in-Faulty.is in
-    names_refused c.args.text.now c.args.head _ _ c.args.state _ more _ c.next_name.ensures _ _ faulty
-    c.refuse.ensures c.refused.ensures
+pub returns-in-Err : goal.returns-in-Err
+returns-in-Err t c =
+    names_refused c.args.text.now c.args.head _ _ c.args.state c.if-many-eq0.false _ _ c.in-Err.ensures c.refuse.ensures
 
-pub returns-in-Found : goal.returns-in-Found
-returns-in-Found t c =
-    let more = c.if-many-eq0.false in
-    let found = c.in-Found.is in
-    names_on c.args.text.now c.args.head _ _ c.args.state _ more _ c.next_name.ensures _ found
-    _ c.past-next.ensures.0 refl refl c.give-inner.ensures c.read_names.ensures
+pub returns-in-Ok : goal.returns-in-Ok
+returns-in-Ok t c =
+    names_on c.args.text.now c.args.head _ _ c.args.state c.if-many-eq0.false _ c.in-Ok.ensures _ _ c.past-more.ensures.0 refl refl
+    c.give-more.ensures c.read_names.ensures
