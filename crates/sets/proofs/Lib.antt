@@ -8,7 +8,7 @@ pub mod FourBytes
 pub mod Removal
 pub mod Joins
 pub mod SameRows
-pub mod Taking
+pub mod Walking
 pub mod Once
 pub mod Computed
 pub mod Listed

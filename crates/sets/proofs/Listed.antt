@@ -8,9 +8,9 @@ use native.Mathlib.Omega.{arith}
 use borrow.Author.Tests.{eqb-true, eqb-false}
 use lib.Arith.{half_le}
 use lib.Dec.{eqb}
+use Rattle.std.proofs.lemmas.Nat.Bits.{bit_at_lowest, bit_at-suc}
 use Rattle.sets.specs.Set.{Has, is_none}
 use Rattle.sets.specs.inner.Compute.{list_within, list_of}
-use Rattle.sets.proofs.Bits.{bit_zero, bit_suc}
 use Rattle.sets.proofs.Members.{has_none}
 
 -- a is one of a list
@@ -27,25 +27,25 @@ no_counts first s o e w = has_none w.0 (subst (λ t. Has t w.0) e w.2)
 
 -- a member of the half is one of s, one digit further
 half_counts : (first s o : ℕ) → Counts (suc first) (s / 2) o → Counts first s o
-half_counts first s o w = (suc w.0, omega (arith, w.1), bit_suc s w.0 ∙ w.2)
+half_counts first s o w = (suc w.0, omega (arith, w.1), bit_at-suc s w.0 ∙ w.2)
 
 -- the members of s by those of its half, where the lowest digit is a member and where it is not
 odd_counts : (first s o : ℕ) → s % 2 ≡ 1 → Counts first s o ↔ ((o ≡ first) ⊎ Counts (suc first) (s / 2) o)
 odd_counts first s o odd = (there, ⊎_elim lowest (half_counts first s o))
   where
     lowest : o ≡ first → Counts first s o
-    lowest e = (0, omega arith, bit_zero s ∙ odd)
+    lowest e = (0, omega arith, bit_at_lowest s ∙ odd)
 
     there : Counts first s o → (o ≡ first) ⊎ Counts (suc first) (s / 2) o
     there (zero, e, h) = inl (omega arith)
-    there (suc k, e, h) = inr (k, omega arith, sym (bit_suc s k) ∙ h)
+    there (suc k, e, h) = inr (k, omega arith, sym (bit_at-suc s k) ∙ h)
 
 even_counts : (first s o : ℕ) → (s % 2 ≡ 1 → ⊥) → Counts first s o ↔ Counts (suc first) (s / 2) o
 even_counts first s o even = (there, half_counts first s o)
   where
     there : Counts first s o → Counts (suc first) (s / 2) o
-    there (zero, e, h) = absurd (even (sym (bit_zero s) ∙ h))
-    there (suc k, e, h) = (k, omega arith, sym (bit_suc s k) ∙ h)
+    there (zero, e, h) = absurd (even (sym (bit_at_lowest s) ∙ h))
+    there (suc k, e, h) = (k, omega arith, sym (bit_at-suc s k) ∙ h)
 
 within_listed : (left first s o : ℕ) → s ≤ left → Mem o (list_within left first s) ↔ Counts first s o
 unfolding list_within

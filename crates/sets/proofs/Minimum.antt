@@ -1,58 +1,55 @@
 -- The least member: every set but the empty one has it, by halving, and so has what the machine counts as trailing zeros.
 -- Assumes nothing.
-use mathlib.Core.Path.{◌≡◌, refl, sym, ◌∙◌, subst}
-use mathlib.Core.Bool.{Bool, true}
-use mathlib.Core.Logic.{◌⊎◌, inl, inr, ◌↔◌, ◌≢◌}
-use Prim.Native.Nat.{ℕ, zero, suc, ◌/◌, ◌%◌, ◌^◌, ◌<◌}
-use native.Mathlib.Nat.{pow-suc, zero-lt-suc, le_of_suc-le-suc, not-suc-le-zero, lt_of_lt_of_le, div-lt_iff_lt-mul}
-use native.Mathlib.Decide.{ℕ_discrete}
+use mathlib.Core.Path.{◌≡◌, refl}
+use mathlib.Core.Bool.{Bool, true, false, cond}
+use mathlib.Core.Logic.{◌↔◌, ◌≢◌}
+use Prim.Native.Nat.{ℕ, zero, suc, ◌/◌, ◌%◌, ◌^◌, ◌≤◌, ◌<◌}
 use native.Mathlib.Omega.{arith}
-use lib.Arith.{bin_ind}
+use borrow.Author.Tests.{eqb-true, eqb-false}
+use lib.Arith.{half_le}
 use lib.Bits.{bit_and}
-use lib.Count.{count_trailing_zeros, under}
+use lib.Dec.{eqb}
+use mir.Val.{bits}
+use Rattle.std.specs.Int.{Width, trailing_zeros}
+use Rattle.std.proofs.lemmas.Nat.Bits.{bit_at-lt, bit_at-zero, bit_at_lowest, bit_at-suc, bit_at-trailing_zeros, same_from_bits}
 use Rattle.sets.specs.Set.{Set, none, Has, Members, Empty, is_none, Meet, LeastMember, Decides}
+use Rattle.sets.specs.inner.Compute.{lowest_within, lowest}
+use Rattle.sets.proofs.Bits.{zero_not_has}
 use Rattle.sets.proofs.Decide.{says_equal, decides_once}
-use Rattle.sets.proofs.Bits.{zero_or_one, bit_zero, bit_suc}
 use Rattle.sets.proofs.Members.{has_nonzero, has_and}
 
-pub least_odd : (s : ℕ) → s % 2 ≡ 1 → LeastMember s 0
-least_odd s e = record { has = bit_zero s ∙ e; least = λ k l. absurd (not-suc-le-zero l) }
+least_odd : (s : ℕ) → s % 2 ≡ 1 → LeastMember s 0
+least_odd s e = record { has = omega (arith, bit_at_lowest s); least = λ k l h. omega arith }
 
-pub least_even : (s c : ℕ) → s % 2 ≡ 0 → LeastMember (s / 2) c → LeastMember s (suc c)
-least_even s c e l = record { has = bit_suc s c ∙ l.has; least = under_it }
+least_even : (s c : ℕ) → s % 2 ≡ 0 → LeastMember (s / 2) c → LeastMember s (suc c)
+least_even s c e l = record { has = omega (arith, bit_at-suc s c, l.has); least = under_it }
   where
     under_it : (k : ℕ) → k < suc c → Has s k → ⊥
-    under_it zero b h = omega (arith, bit_zero s)
-    under_it (suc k) b h = l.least k (le_of_suc-le-suc b) (sym (bit_suc s k) ∙ h)
+    under_it zero b h = omega (arith, bit_at_lowest s)
+    under_it (suc k) b h = l.least k (omega arith) (omega (arith, bit_at-suc s k))
+
+-- what the checker computes
+pub within_least : (left s : ℕ) → s ≤ left → s ≢ 0 → LeastMember s (lowest_within left s)
+unfolding lowest_within
+within_least zero s l n = absurd (n (omega arith))
+within_least (suc left) s l n = go (eqb (s % 2) 1) refl (λ m. within_least left (s / 2) (half_le l) m)
+  where
+    go : (b : Bool) → eqb (s % 2) 1 ≡ b → (s / 2 ≢ 0 → LeastMember (s / 2) (lowest_within left (s / 2)))
+        → LeastMember s (cond b 0 (suc (lowest_within left (s / 2))))
+    go true t rest = least_odd s (eqb-true (s % 2) 1 t)
+    go false t rest = let e = eqb-false (s % 2) 1 t in least_even s _ (omega arith) (rest (omega arith))
 
 pub least_of_lem : (s : ℕ) → s ≢ 0 → (c : ℕ) × LeastMember s c
-least_of_lem = bin_ind (λ (n : ℕ). n ≢ 0 → (c : ℕ) × LeastMember n c) (λ h. absurd (h refl)) (λ n ih h. go n ih h (zero_or_one (n % 2) (omega arith)))
-  where
-    go : (n : ℕ) → (n / 2 ≢ 0 → (c : ℕ) × LeastMember (n / 2) c) → n ≢ 0 → (n % 2 ≡ 0) ⊎ (n % 2 ≡ 1) → (c : ℕ) × LeastMember n c
-    go n ih h (inl e) = let r = ih (omega arith) in (suc r.0, least_even n r.0 e r.1)
-    go n ih h (inr e) = (0, least_odd n e)
+least_of_lem s n = (lowest s, within_least s s (omega arith) n)
 
--- `u32::trailing_zeros` and its kind, at the width w
-pub trailing_least : (w s : ℕ) → 0 < s → s < 2 ^ w → LeastMember s (count_trailing_zeros w s)
-unfolding count_trailing_zeros
-trailing_least zero s p h = absurd (not-suc-le-zero (lt_of_lt_of_le p (le_of_suc-le-suc h)))
-trailing_least (suc w) s p h = go (λ q. trailing_least w (s / 2) q half) (s % 2) refl
-  where
-    half : s / 2 < 2 ^ w
-    half = (div-lt_iff_lt-mul (zero-lt-suc 1)).1 (subst (λ (x : ℕ). s < x) (pow-suc 2 w) h)
-
-    go : (0 < s / 2 → LeastMember (s / 2) (count_trailing_zeros w (s / 2))) → (d : ℕ) → s % 2 ≡ d → LeastMember s (under d (count_trailing_zeros w (s / 2)))
-    go ih zero e = least_even s (count_trailing_zeros w (s / 2)) e (ih (omega arith))
-    go ih (suc d) e = least_odd s (omega arith)
+-- and what `u32::trailing_zeros` and its kind compute, at the width w
+pub trailing_least : (w : Width) (s : ℕ) → 0 < s → s < 2 ^ bits w → LeastMember s (trailing_zeros w s)
+trailing_least w s p h = let t = bit_at-trailing_zeros w s p h in record { has = t.1; least = λ k l. zero_not_has s k (t.2 k l) }
 
 -- ---- a set that is not zero has a member
 
 pub empty_zero : (s : ℕ) → Empty s ↔ (s ≡ 0)
-empty_zero s = (λ h. go h (ℕ_discrete s 0), λ e c h. has_nonzero s c h e)
-  where
-    go : Empty s → Dec (s ≡ 0) → s ≡ 0
-    go h (yes e) = e
-    go h (no n) = let r = least_of_lem s n in absurd (h r.0 r.1.has)
+empty_zero s = (λ h. same_from_bits s 0 (λ c. omega (arith, h c, bit_at-lt s c, bit_at-zero c)), λ e c h. has_nonzero s c h e)
 
 -- the test tells whether there is a member
 pub none_decides : (s : Set) → Decides (is_none s) (Empty s)
@@ -67,9 +64,6 @@ none_told b s d = decides_once (is_none s) b (none_decides s) d
 
 pub filled : (s : ℕ) → (Empty s → ⊥) → 0 < s
 filled s h = let n : s ≢ 0 = λ e. h ((empty_zero s).1 e) in omega arith
-
-pub not_empty : (s : ℕ) → 0 < s → Empty s → ⊥
-not_empty s l h = let e = (empty_zero s).0 h in omega arith
 
 pub meet_and : (a b : ℕ) → Meet a b ↔ (bit_and a b ≢ 0)
 meet_and a b = (

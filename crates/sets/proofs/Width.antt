@@ -1,42 +1,34 @@
 -- A width: the sets below 2 ^ w are those whose members are below w, and how that is tested.
 -- Assumes nothing.
-use mathlib.Core.Path.{◌≡◌, ap, ◌∙◌}
+use mathlib.Core.Path.{◌≡◌, ◌∙◌}
 use mathlib.Core.Bool.{Bool}
-use Prim.Native.Nat.{ℕ, zero, suc, ◌-◌, ◌*◌, ◌/◌, ◌%◌, ◌^◌, ◌≤◌, ◌<◌}
-use native.Mathlib.Nat.{div-eq_of_lt, div_self, pow-suc, le_of_suc-le-suc, not-suc-le-zero, lt_of_lt_of_le, one-mul}
-use native.Mathlib.Decide.{dec_lt}
+use Prim.Native.Nat.{ℕ, zero, suc, ◌*◌, ◌/◌, ◌%◌, ◌^◌, ◌≤◌, ◌<◌}
+use native.Mathlib.Nat.{div-eq_of_lt, pow-suc, le_of_suc-le-suc, not-suc-le-zero, one-mul}
 use native.Mathlib.Omega.{arith}
 use lib.Dec.{lit<, eqb}
-use lib.Pow.{pow_pos, pow_mono, shl_exact, shr_mono}
+use lib.Pow.{pow_pos, shl_exact}
 use borrow.Author.Tests.{ltb-true, ltb-false}
-use Rattle.sets.specs.Set.{bit, Has, Narrow, is_narrow, Decides}
-use Rattle.sets.proofs.Bits.{zero_not_has, bit_zero, bit_suc}
+use Rattle.std.proofs.lemmas.Nat.Bits.{bit_at-suc, bit_at_above}
+use Rattle.sets.specs.Set.{Has, Narrow, is_narrow, Decides}
+use Rattle.sets.proofs.Bits.{zero_not_has}
 use Rattle.sets.proofs.Decide.{says_equal, decides_once}
 use Rattle.sets.proofs.Minimum.{empty_zero}
 
 pub below : (w s c : ℕ) → s < 2 ^ w → Has s c → c < w
 below w s c b h =
-    let none : w ≤ c → ⊥ = λ l. zero_not_has s c (ap (λ (x : ℕ). x % 2) (div-eq_of_lt (lt_of_lt_of_le b (pow_mono l)))) h in
+    let past : w ≤ c → ⊥ = λ l. zero_not_has s c (bit_at_above s w c b l) h in
     omega arith
 
 -- `1 << c` at the width w
 pub shift_one : (w c : ℕ) → c < w → 1 * 2 ^ c % 2 ^ w ≡ 2 ^ c
 shift_one w c h = shl_exact 1 c w (lit< tt) (omega arith) ∙ one-mul (2 ^ c)
 
--- the set of all below w
-pub full : (w c : ℕ) → c < w → Has (2 ^ w - 1) c
-full zero c h = absurd (not-suc-le-zero h)
-full (suc w) zero h = bit_zero (2 ^ suc w - 1) ∙ (let e = pow-suc 2 w in let p = pow_pos w in omega arith)
-full (suc w) (suc c) h =
-    let half : (2 ^ suc w - 1) / 2 ≡ 2 ^ w - 1 = let e = pow-suc 2 w in let p = pow_pos w in omega arith in
-    bit_suc (2 ^ suc w - 1) c ∙ ap (λ (x : ℕ). bit x c) half ∙ full w c (le_of_suc-le-suc h)
-
 -- ---- the test of a width
 
 under : (w s : ℕ) → Narrow w s → s < 2 ^ w
 under zero s h = let none = (empty_zero s).0 (λ c m. not-suc-le-zero (h c m)) in omega arith
 under (suc w) s h =
-    let half = under w (s / 2) (λ c m. le_of_suc-le-suc (h (suc c) (bit_suc s c ∙ m))) in
+    let half = under w (s / 2) (λ c m. le_of_suc-le-suc (h (suc c) (bit_at-suc s c ∙ m))) in
     let double = pow-suc 2 w in
     omega arith
 
@@ -57,11 +49,7 @@ narrow_past w v s fits wider c h = let short = below w s c fits h in omega arith
 
 -- a set fits a width where nothing is left of it behind
 pub narrow_shifted : (w s : ℕ) → Decides (eqb (s / 2 ^ w) 0) (Narrow w s)
-narrow_shifted w s = says_equal (s / 2 ^ w) 0 ((λ h. div-eq_of_lt (under w s h)), λ e c. below w s c (short e (dec_lt s (2 ^ w))))
+narrow_shifted w s = says_equal (s / 2 ^ w) 0 ((λ h. div-eq_of_lt (under w s h)), λ e c. below w s c (short e))
   where
-    short : s / 2 ^ w ≡ 0 → Dec (s < 2 ^ w) → s < 2 ^ w
-    short e (yes h) = h
-    short e (no n) =
-        let one = div_self (pow_pos w) in
-        let some = shr_mono w (let more : 2 ^ w ≤ s = omega arith in more) in
-        absurd (omega arith)
+    short : s / 2 ^ w ≡ 0 → s < 2 ^ w
+    short e = grind (arith, pow_pos w)

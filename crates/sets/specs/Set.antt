@@ -34,10 +34,6 @@ Narrow w s = (c : ℕ) → Has s c → c < w
 abbrev pub is_narrow : ℕ → Set → Bool
 is_narrow w s = ltb s (2 ^ w)
 
--- each member of a is a member of b
-abbrev pub Subset : Set → Set → Type 0
-Subset a b = (c : ℕ) → Has a c → Has b c
-
 -- s has no member
 abbrev pub Empty : Set → Type 0
 Empty s = (c : ℕ) → Has s c → ⊥

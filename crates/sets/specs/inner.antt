@@ -1,2 +1,3 @@
--- What the checker computes with.
+-- For inner contracts and for computing: nothing that a caller has to believe.
+pub mod Walk
 pub mod Compute

@@ -1,9 +1,10 @@
 // Sets of channels. Nobody above this crate knows what a set is made of: it is a number, and channel c is a member where the binary digit c of
 // the number is 1. Every contract but those on bytes speaks of members alone (specs/Set.antt), and each fixes the answer. What is done to whole rows of
-// sets is in rows.rt.
+// sets is in rows.rt, and the walk over a set's members in walk.rt.
 #![tactic(auto)]
 
 pub mod rows;
+mod walk;
 
 ghost use Rattle.std.specs.Prelude.{◌≡◌, ◌⊎◌, ◌<◌};
 ghost use Rattle.limits.specs.Limits.{most_channels};
@@ -11,7 +12,7 @@ ghost use Rattle.sets.specs.Set.{none, Has, is_member, Members, Empty, Meet, Nar
 
 use limits::MOST_CHANNELS;
 
-// A set of channels.
+// A set of channels. An alias and no struct: document 01 has the sets of a solution in arrays of u32.
 pub type Set = u32;
 
 // The set without a member.
@@ -76,10 +77,7 @@ pub fn is_empty(set: Set) -> bool
 pub fn is_narrow(set: Set, width: u8) -> bool
     ensures { Decides result (Narrow width set) }
 {
-    if MOST_CHANNELS <= width {
-        return true;
-    }
-    set >> width == 0
+    MOST_CHANNELS <= width || set >> width == 0
 }
 
 // The least member of a set that has one.
@@ -88,7 +86,7 @@ pub fn least(set: Set) -> u32
     ensures least_member { LeastMember set result }
     ensures upper_bound { result < most_channels }
 {
-    u32::trailing_zeros(set)
+    set.trailing_zeros()
 }
 
 // `set` without its member `channel`. It is smaller, so that a loop that takes members away comes to an end.
@@ -96,24 +94,19 @@ pub(crate) fn without(set: Set, channel: u32) -> Set
     requires { (channel < most_channels) × Has set channel }
     ensures { Without set channel result }
 {
-    set - (1 << channel)
+    set & !(1 << channel)
 }
 
 // A set as four bytes, high byte first.
 pub fn bytes(set: Set) -> [u8; 4]
     ensures { result ≡ set_bytes set }
 {
-    [
-        (set / 0x1000000 % 0x100) as u8,
-        (set / 0x10000 % 0x100) as u8,
-        (set / 0x100 % 0x100) as u8,
-        (set % 0x100) as u8,
-    ]
+    set.to_be_bytes()
 }
 
 // The set of four bytes, high byte first.
 pub fn of_bytes(first: u8, second: u8, third: u8, fourth: u8) -> Set
     ensures { result ≡ set_of_bytes first second third fourth }
 {
-    first as u32 * 0x1000000 + second as u32 * 0x10000 + third as u32 * 0x100 + fourth as u32
+    u32::from_be_bytes([first, second, third, fourth])
 }

@@ -1,10 +1,12 @@
 // Rows of sets, lent, of any length. Part of a row is one set for each channel; `base` and `start` say where such a part begins.
-ghost use Rattle.std.specs.Prelude.{◌≡◌, ◌+◌, ◌<◌, ◌≤◌, length};
+// They stand beside the row, and the part is not lent: the public signatures have them, and `Joins` speaks of the row as a whole.
+ghost use Rattle.std.specs.Prelude.{◌≡◌, ℕ, ◌+◌, ◌<◌, ◌≤◌, length};
 ghost use Rattle.limits.specs.Limits.{most_channels};
 ghost use Rattle.sets.specs.Set.{Has, Members, Narrow, Decides};
 ghost use Rattle.sets.specs.Rows.{set_at, Joins, Only, Over, From, Together, Copied};
 
-use crate::{Set, least, without};
+use crate::walk::members;
+use crate::{Set, empty, union};
 
 // The set at a place.
 pub fn at(row: &[Set], place: usize) -> Set
@@ -21,7 +23,7 @@ pub fn join_at(row: &mut [Set], place: usize, set: Set)
     ensures joins { Joins row.old row.new (Only place set) }
     ensures row_len_unchanged { length row.new ≡ length row.old }
 {
-    row[place] = row[place] | set;
+    row[place] = union(row[place], set);
 }
 
 // `set` is joined to what stands at each channel of `channels` from `base` on.
@@ -30,13 +32,7 @@ pub fn spread(row: &mut [Set], base: usize, channels: Set, set: Set)
     ensures joins { Joins row.old row.new (Over base (Has channels) (λ c. Has set)) }
     ensures row_len_unchanged { length row.new ≡ length row.old }
 {
-    let mut left = channels;
-    while left != 0 {
-        let c = least(left);
-        let at = base + (c as usize);
-        row[at] = row[at] | set;
-        left = without(left, c);
-    }
+    join_each(row, base, channels, |_| set);
 }
 
 // What stands at each channel of `channels` from `start` on in `from` is joined to what stands at it from `base` on in `row`.
@@ -45,13 +41,19 @@ pub fn merge(row: &mut [Set], base: usize, from: &[Set], start: usize, channels:
     ensures joins { Joins row.old row.new (Over base (Has channels) (From from.now start)) }
     ensures row_len_unchanged { length row.new ≡ length row.old }
 {
-    let mut left = channels;
-    while left != 0 {
-        let c = least(left);
-        let i = c as usize;
-        let at = base + i;
-        row[at] = row[at] | from[start + i];
-        left = without(left, c);
+    join_each(row, base, channels, |c| from[start + c]);
+}
+
+// The set that `what` gives for a channel is joined to what stands at it from `base` on, at each channel of `channels`.
+fn join_each<F: Fn(usize) -> Set>(row: &mut [Set], base: usize, channels: Set, what: F)
+    requires fits { base + most_channels ≤ length row.old }
+    requires callable { (c : ℕ) → c < most_channels → F.pre what c }
+    ensures joins { (sets : ℕ → ℕ) → ((c set : ℕ) → F.post what c set → set ≡ sets c)
+        → Joins row.old row.new (Over base (Has channels) (λ c. Has (sets c))) }
+    ensures row_len_unchanged { length row.new ≡ length row.old }
+{
+    for c in members(channels) {
+        join_at(row, base + c, what(c));
     }
 }
 
@@ -60,12 +62,9 @@ pub fn together(from: &[Set], start: usize, channels: Set) -> Set
     requires { start + most_channels ≤ length from.now }
     ensures { Members result (Together from.now start (Has channels)) }
 {
-    let mut all: Set = 0;
-    let mut left = channels;
-    while left != 0 {
-        let c = least(left);
-        all = all | from[start + (c as usize)];
-        left = without(left, c);
+    let mut all = empty();
+    for c in members(channels) {
+        all = union(all, from[start + c]);
     }
     all
 }
@@ -75,26 +74,12 @@ pub fn copy(into: &mut [Set], from: &[Set], start: usize)
     requires { start + length into.old ≤ length from.now }
     ensures { Copied into.old from.now start into.new }
 {
-    let mut i = 0;
-    while i < into.len() {
-        into[i] = from[start + i];
-        i += 1;
-    }
+    into.copy_from_slice(&from[start..start + into.len()]);
 }
 
 // Whether two rows, of any length, hold the same sets in the same order.
 pub fn same(a: &[Set], b: &[Set]) -> bool
     ensures { Decides result (a.now ≡ b.now) }
 {
-    if a.len() != b.len() {
-        return false;
-    }
-    let mut i = 0;
-    while i < a.len() {
-        if a[i] != b[i] {
-            return false;
-        }
-        i += 1;
-    }
-    true
+    a == b
 }

@@ -1,12 +1,8 @@
--- The zeros below the lowest 1 are as many as its place, and a member of a u32 is below 32, the most channels.
+-- The zeros below the lowest 1 are as many as its place.
 -- Assumes nothing.
-use Rattle.limits.specs.Limits.{most_channels}
+use mir.Syntax.{w32}
 use Rattle.sets.proofs.Minimum.{filled, trailing_least}
-use Rattle.sets.proofs.Width.{below}
 use Rattle.sets.proofs.least.Goals as goal
 
-pub returns : goal.returns
-returns c =
-    let s = c.args.set in
-    let least = trailing_least most_channels s (filled s c.requires) c.ranges.set.fits in
-    record { least_member = least; upper_bound = below most_channels s _ c.ranges.set.fits least.has }
+pub returns-clause-least_member : goal.returns-clause-least_member
+returns-clause-least_member c = trailing_least w32 c.args.set (filled c.args.set c.requires) c.ranges.set.fits

@@ -1,51 +1,8 @@
--- While channels are left, the row has what stands in the other row joined in at the channels taken; each turn takes the least of those left.
+-- The set for a channel is the one that stands there in the other row.
 -- Assumes nothing.
-use mathlib.Core.Path.{◌∙◌}
-use Prim.Native.Nat.{◌+◌}
-use native.Mathlib.Omega.{arith}
-use lib.ListN.{get_or, length-set}
-use Rattle.sets.specs.Set.{Has}
-use Rattle.sets.specs.Rows.{From}
-use Rattle.sets.proofs.Members.{members_own}
-use Rattle.sets.proofs.Minimum.{not_empty}
-use Rattle.sets.proofs.Taking.{Taken, taken_none, taken_all, taken_more, left_subset, over_none, over_more, over_same}
+use Rattle.std.proofs.Common.{◌+◌, rules}
+use Rattle.sets.specs.Rows.{set_at}
 use Rattle.sets.proofs.rows.merge.Goals as goal
 
-pub loop-left-init : goal.loop-left-init
-loop-left-init c =
-    let a = c.args in
-    let none = over_none {P = Taken a.channels a.channels} (From a.from.now a.start) a.row.now a.base (taken_none a.channels) in
-    ((λ k h. h), omega arith, none)
-
-pub least-c-requires : goal.least-c-requires
-least-c-requires c = not_empty _ (omega arith)
-
-pub without-left-requires : goal.without-left-requires
-without-left-requires c = (c.least-c.ensures.upper_bound, c.least-c.ensures.least_member.has)
-
-pub loop-left-smaller : goal.loop-left-smaller
-loop-left-smaller c = c.without-left.ensures.less
-
-pub loop-left-preserved : goal.loop-left-preserved
-loop-left-preserved c =
-    let a = c.args in
-    let at = c.loop-left in
-    let l = c.least-c in
-    let r = c.without-left in
-    let more = taken_more a.channels at.left l.result r.result at.invariant.0 r.ensures l.ensures.least_member.has in
-    let v = get_or a.from.now (a.start + l.result) 0 in (
-      left_subset a.channels at.left l.result r.result at.invariant.0 r.ensures,
-      length-set at.row _ _ ∙ at.invariant.1,
-      over_more {P = Taken a.channels at.left} {U = Taken a.channels r.result} l.result more (From a.from.now a.start)
-          a.base at.row v (members_own v) (omega arith) at.invariant.2,
-    )
-
-pub shape_of-row : goal.shape_of-row
-shape_of-row c = c.loop-left.invariant.1
-
-pub returns : goal.returns
-returns c =
-    let a = c.args in
-    let at = c.loop-left in
-    let all = taken_all a.channels at.left (omega arith) in
-    record { joins = over_same {P = Taken a.channels at.left} {U = Has a.channels} all (From a.from.now a.start) a.base at.invariant.2; row_len_unchanged = at.invariant.1 }
+pub returns-clause-joins : goal.returns-clause-joins
+returns-clause-joins c = c.join_each.ensures.joins (λ k. set_at c.args.from.now (c.args.start + k)) (search rules)

@@ -1,12 +1,11 @@
--- While channels are left, the union is of what stands at the channels taken; each turn takes the least of those left.
+-- What is joined, and what stands at the channels that are left, are what stands at all channels.
 -- Assumes nothing.
-use Rattle.sets.specs.Set.{Members, Subset}
+use mathlib.Core.Logic.{◌↔◌, ◌⊎◌}
+use Prim.Native.Nat.{ℕ}
+use Rattle.sets.specs.Set.{Has}
 use Rattle.sets.specs.Rows.{Together}
-use Rattle.sets.proofs.Taking.{Taken}
 use Rattle.sets.proofs.rows.together.Given as goal
 
-abbrev pub invariant-loop-left : goal.invariant-loop-left
-invariant-loop-left l = Subset l.left l.channels × Members l.all (Together l.from l.start (Taken l.channels l.left))
-
-abbrev pub decreases-loop-left : goal.decreases-loop-left
-decreases-loop-left l = l.left
+abbrev pub invariant-loop-c : goal.invariant-loop-c
+invariant-loop-c l =
+    (o : ℕ) → (Has l.all o ⊎ Together l.from l.start (Has l.c-iterator.left) o) ↔ Together l.from l.start (Has l.channels) o
