@@ -11,7 +11,7 @@ use crate::{Head, Label, Reason};
 use limits::{BINDER_SETS, CHANNEL_SETS, LONGEST_LABEL, OUTERMOST};
 use text::{byte_in, bytes_in, size_in};
 
-// The kinds of thing that may have a label.
+// The kinds of thing that may have a label. Numbers and no enum: `is_thing` and `place_among` take whatever byte a text has for a kind.
 pub const CHANNEL: u8 = 0;
 
 pub const BINDER: u8 = 1;
@@ -42,7 +42,7 @@ pub fn place_among(kind: u8, number: u8) -> usize
     }
 }
 
-// No label: where there is no line.
+// No label, as it stands in the unused places of an array: document 01 has these hold zero.
 pub fn no_label() -> Label
     ensures { result ≡ no_label }
 {

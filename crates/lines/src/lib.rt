@@ -69,7 +69,8 @@ pub struct Offer {
     pub set: Set,
 }
 
-// The label of a channel, a binder or a level: its kind and number, how many bytes it has, and these with zeros behind them.
+// The label of a channel, a binder or a level: its kind and number, how many bytes it has, and these with zeros behind them: memory is fixed, so
+// the array holds the longest.
 #[derive(Clone, Copy)]
 pub struct Label {
     pub kind: u8,

@@ -24,7 +24,7 @@ mod names;
 mod offers;
 mod tree;
 
-// Why a text is refused, and on which line; number 0 where it isn't.
+// Why a text is refused, and on which line; number 0 and line 0 where it isn't, as document 01 has it of a good reading, and so no Option.
 #[derive(Clone, Copy)]
 pub struct Refusal {
     pub number: u8,
@@ -32,7 +32,8 @@ pub struct Refusal {
 }
 
 // What a text says, with a set for each channel of the handles that are offered on it, and so many labels and nodes in text order. Unused places
-// hold zero, or nil for a node, and an empty set where nothing is offered; a refused text says nothing.
+// hold zero, or nil for a node, and an empty set where nothing is offered; a refused text says nothing. Refusal, counts and arrays stand side by side,
+// since document 01 gives them so, in fixed memory.
 #[derive(Clone, Copy)]
 pub struct Reading {
     pub refusal: Refusal,

@@ -35,7 +35,8 @@ pub(crate) fn fresh_names(cursor: Cursor) -> Names
     }
 }
 
-// What was read before, with `many` free names more, each `least` or more.
+// What was read before, with `many` free names more, each `least` or more. It calls itself as the definition does: a loop would need an invariant that
+// says the same.
 pub(crate) fn read_names(
     text: &[u8],
     head: Head,

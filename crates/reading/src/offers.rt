@@ -28,7 +28,8 @@ pub(crate) fn fresh_offers(cursor: Cursor) -> Offers
     }
 }
 
-// What was read before, with the offers that stand here, on channels that are `least` or more.
+// What was read before, with the offers that stand here, on channels that are `least` or more. It calls itself as the definition does, up to a line that
+// is none: nothing is counted.
 pub(crate) fn read_offers(
     text: &[u8],
     head: Head,
