@@ -4,14 +4,12 @@
 use Prim.Native.Nat.{ℕ, zero, suc, ◌+◌, ◌<◌}
 use mathlib.Core.Path.{◌≡◌, refl, sym, ap, subst, ◌∙◌}
 use mathlib.Core.Logic.{◌↔◌, ⊎_elim}
-use mathlib.Core.Bool.{Bool, true, false, cond, false≢true}
+use mathlib.Core.Bool.{Bool, true, false, false≢true}
 use mathlib.Core.List.{List, [], ◌∷◌, ◌++◌, append_assoc, append-nil}
 use native.Mathlib.Omega.{arith}
 use lib.ListN.{length, length-append}
-use lib.Dec.{leb}
-use borrow.Author.Tests.{leb-true, leb-false}
 use Rattle.label_bytes.specs.Label.{is_shown, IsLabel, is_label_from, Begins, LongestBeginning, shortened_from}
-use Rattle.label_bytes.proofs.Tests.{by_test, not_so}
+use Rattle.std.proofs.lemmas.Bool.{cases_lt, cond_both, false_from_ne_true}
 use Rattle.label_bytes.proofs.Lists.{begins_length, begins_front}
 use Rattle.label_bytes.proofs.Letters.{letter_some}
 use Rattle.label_bytes.proofs.Beginnings.{made_none, made_more, First, first_of, first_begins, label_rest, longest_none, longest_more}
@@ -23,18 +21,18 @@ abbrev pub Unfinished : List ℕ → Type 0
 Unfinished begun = (c : List ℕ) → Begins c begun → is_shown c ≡ false
 
 pub unfinished_none : Unfinished []
-unfinished_none c b = not_so (is_shown c) (λ e. omega (arith, letter_some c e, begins_length c [] b))
+unfinished_none c b = false_from_ne_true (is_shown c) (λ e. omega (arith, letter_some c e, begins_length c [] b))
 
 -- a character that the bytes begin with goes on behind those begun
 unfinished_long : (begun bytes text c : List ℕ) → begun ++ bytes ≡ text → Unfinished begun → is_shown c ≡ true → Begins c text → length begun < length c
 unfinished_long begun bytes text c p u e b =
-    by_test (λ t. leb (length c) (length begun) ≡ t → length begun < length c) (leb (length c) (length begun))
-    (λ _ short. absurd (false≢true (sym (u c (begins_front c begun bytes (leb-true _ _ short) (rw (← p) at b))) ∙ e)))
-    (λ _ long. leb-false _ _ long)
-    refl
+    ⊎_elim
+    (λ long. long)
+    (λ short. absurd (false≢true (sym (u c (begins_front c begun bytes short (rw (← p) at b))) ∙ e)))
+    (cases_lt (length begun) (length c))
 
 unfinished_more : (begun : List ℕ) (b : ℕ) → Unfinished begun → is_shown (begun ++ (b ∷ [])) ≡ false → Unfinished (begun ++ (b ∷ []))
-unfinished_more begun b u e c d = not_so (is_shown c) (λ letter. none d.rest letter d.is)
+unfinished_more begun b u e c d = false_from_ne_true (is_shown c) (λ letter. none d.rest letter d.is)
   where
     none : (rest : List ℕ) → is_shown c ≡ true → c ++ rest ≡ begun ++ (b ∷ []) → ⊥
     none [] letter p = false≢true (sym e ∙ ap is_shown (sym p ∙ append-nil c) ∙ letter)
@@ -68,7 +66,7 @@ whole_test (b ∷ bytes) begun text p u =
     let more = begun ++ (b ∷ []) in
     let whole : more ++ bytes ≡ text = append_assoc begun (b ∷ []) bytes ∙ p in
     let behind = whole_test bytes [] bytes refl unfinished_none in
-    by_test (λ t. (cond t (is_label_from [] bytes) (is_label_from more bytes) ≡ true) ↔ IsLabel text) (is_shown more)
+    cond_both (is_shown more) (is_label_from [] bytes) (is_label_from more bytes) (λ t. (t ≡ true) ↔ IsLabel text)
     (λ e. rw whole at (label_behind (is_label_from [] bytes) more bytes e behind))
     (λ e. whole_test bytes more text whole (unfinished_more begun b u e))
 
@@ -88,6 +86,6 @@ longest_computed (b ∷ bytes) (suc room) most begun text n p u =
     let whole : more ++ bytes ≡ text = append_assoc begun (b ∷ []) bytes ∙ p in
     let size : length more + room ≡ most = omega (arith, length-append begun (b ∷ [])) in
     let behind = longest_computed bytes room room [] bytes (omega arith) refl unfinished_none in
-    by_test (λ t. LongestBeginning most text (cond t (more ++ shortened_from room [] bytes) (shortened_from room more bytes))) (is_shown more)
+    cond_both (is_shown more) (more ++ shortened_from room [] bytes) (shortened_from room more bytes) (LongestBeginning most text)
     (λ e. rw (size, whole) at (longest_more room more bytes (shortened_from room [] bytes) e behind))
     (λ e. longest_computed bytes room most more text size whole (unfinished_more begun b u e))

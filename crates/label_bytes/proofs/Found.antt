@@ -1,134 +1,104 @@
--- What stands at a position: tails, one after the other; and a character of a label, whose size its first byte says. Where the bytes of that size are
--- none, no other beginning is one, since every one with this first byte has that size.
+-- What bytes begin with: a character of a label, whose size their first byte says. Where the bytes of that size are none, no other beginning is one,
+-- since every one with this first byte has that size.
 -- Assumes nothing.
-use Prim.Native.Nat.{ℕ, zero, suc, ◌+◌, ◌-◌, ◌≤◌, ◌<◌}
-use mathlib.Core.Path.{◌≡◌, refl, sym, ap, ◌∙◌}
-use mathlib.Core.Bool.{true, false, ◌&&◌, false≢true, and-false}
-use mathlib.Core.List.{List, [], ◌∷◌, ◌++◌}
-use native.Mathlib.Numerals.{add-one}
-use native.Mathlib.Nat.{lt_irrefl}
-use native.Mathlib.Omega.{arith}
-use lib.ListN.{length, take, drop, get_or, length-drop}
-use lib.Seq.{drop-cons}
-use lib.Dec.{ltb}
-use borrow.Author.Tests.{ltb-true, lt-ltb, le-leb}
+use Rattle.std.proofs.Common.{ℕ, suc, ◌-◌, ◌≤◌, ◌<◌, ◌≡◌, sym, ap, ◌∙◌, refl, Bool, true, false, ◌&&◌, List, [], ◌∷◌, None, Some, length, take, drop, get_or, replicate, arith}
+use Rattle.std.specs.Bool.{then_some}
+use Rattle.std.specs.declared.ops.RangeInclusive.{RangeInclusive}
+use Rattle.std.specs.List.{slice_get}
+use Rattle.std.proofs.lemmas.List.{get_or-take, length-take-le}
+use lib.ListN.{length-replicate}
 use Rattle.label_bytes.specs.declared.Lead.{Lead}
-use Rattle.label_bytes.specs.Characters.{Range, range, tail, is_in, fits}
+use Rattle.label_bytes.specs.declared.Lead.TheVariants.{One, More}
+use Rattle.label_bytes.specs.Characters.{tail, is_in, fits}
 use Rattle.label_bytes.specs.Label.{is_shown, Begins}
-use Rattle.label_bytes.specs.inner.Working.{tails, are_tails, behind, Leads, Begun}
-use Rattle.label_bytes.proofs.Tests.{both, not_so}
-use Rattle.label_bytes.proofs.Lists.{drop_two, begins_length, begins_take}
+use Rattle.label_bytes.specs.inner.Working.{range_of, are_tails, behind, Leads, Begun}
+use Rattle.std.proofs.lemmas.Bool.{false_from_ne_true}
+use Rattle.label_bytes.proofs.Lists.{begins_length, begins_take}
 use Rattle.label_bytes.proofs.Table.{fits_length}
 use Rattle.label_bytes.proofs.Letters.{letter_some}
 
 -- ---- tails
 
-tails_step : (bytes : List ℕ) (at end : ℕ) → at < length bytes → at < end
-    → are_tails (end - at) (drop at bytes) ≡ (is_in tail (get_or bytes at 0) && are_tails (end - (at + 1)) (drop (at + 1) bytes))
+fits_tails : (bytes : List ℕ) → fits (replicate (length bytes) tail) bytes ≡ are_tails bytes
 unfolding fits
-tails_step bytes at end inside left =
-    let one : end - at ≡ suc (end - (at + 1)) = omega arith in
-    rw (one, drop-cons bytes at 0 inside, add-one at)
-
-pub tails_on : (bytes : List ℕ) (at end : ℕ) → at < length bytes → at < end → 0x80 ≤ get_or bytes at 0 → get_or bytes at 0 ≤ 0xbf
-    → are_tails (end - (at + 1)) (drop (at + 1) bytes) ≡ are_tails (end - at) (drop at bytes)
-tails_on bytes at end inside left low high =
-    sym (tails_step bytes at end inside left ∙ rw (le-leb 0x80 (get_or bytes at 0) low, le-leb (get_or bytes at 0) 0xbf high))
-
-pub tails_off : (bytes : List ℕ) (at end : ℕ) → at < length bytes → at < end → is_in tail (get_or bytes at 0) ≡ false
-    → are_tails (end - at) (drop at bytes) ≡ false
-tails_off bytes at end inside left off = tails_step bytes at end inside left ∙ rw off
-
-pub tails_out : (bytes : List ℕ) (at end : ℕ) → end ≤ at → are_tails (end - at) (drop at bytes) ≡ true
-unfolding fits
-tails_out bytes at end out =
-    let none : end - at ≡ 0 = omega arith in
-    rw none
+fits_tails [] = refl
+fits_tails (b ∷ bytes) = rw (fits_tails bytes)
 
 -- ---- a character
 
-behind_length : (size : ℕ) (second : Range) → 0 < size → suc (length (behind size second)) ≡ size
-behind_length zero second h = absurd (lt_irrefl 0 h)
-behind_length (suc zero) second h = refl
-behind_length (suc (suc count)) second h = ap (λ (n : ℕ). suc (suc n)) (tails_length count)
-  where
-    tails_length : (count : ℕ) → length (tails count) ≡ count
-    tails_length zero = refl
-    tails_length (suc count) = ap suc (tails_length count)
+-- nothing stands there
+pub begun_out : (bytes : List ℕ) → None ≡ slice_get bytes 0 → Begun bytes None
+begun_out [] e c b = false_from_ne_true (is_shown c) (λ e. omega (arith, letter_some c e, begins_length c [] b))
+begun_out (x ∷ bytes) e c b = cc
 
--- the size that the first byte says
-letter_size : (first : ℕ) (lead : Lead) (rest : List ℕ) → Leads first lead → is_shown (first ∷ rest) ≡ true → length (first ∷ rest) ≡ lead.size
-letter_size first lead rest l e =
-    let second = range lead.lowest lead.highest in
-    let parts = both (ltb 0 lead.size) (fits (behind lead.size second) rest) (sym (l.letters rest) ∙ e) in
-    ap suc (fits_length (behind lead.size second) rest parts.1) ∙ behind_length lead.size second (ltb-true 0 lead.size parts.0)
+first_and_rest : (bytes : List ℕ) (first : ℕ) → Some first ≡ slice_get bytes 0 → bytes ≡ first ∷ drop 1 bytes
+first_and_rest [] first e = cc
+first_and_rest (x ∷ bytes) first e = cc
 
--- of one byte, and of two and more: the second byte is within its limits, and the others are tails
-letter_one : (first : ℕ) (lead : Lead) → Leads first lead → lead.size ≡ 1 → is_shown (first ∷ []) ≡ true
-unfolding fits
-letter_one first lead l e = l.letters [] ∙ rw e
+module _ (bytes : List ℕ) (first : ℕ) (stands : Some first ≡ slice_get bytes 0) where
+  is : bytes ≡ first ∷ drop 1 bytes
+  is = first_and_rest bytes first stands
 
-letter_long : (first second count : ℕ) (rest : List ℕ) (lead : Lead) → Leads first lead → lead.size ≡ suc (suc count)
-    → is_shown (take lead.size (first ∷ second ∷ rest)) ≡ (is_in (range lead.lowest lead.highest) second && are_tails count rest)
-unfolding fits
-letter_long first second count rest lead l e =
-    rw e (l.letters (second ∷ take count rest) ∙ rw (e, lt-ltb 0 (suc (suc count)) (omega arith)))
+  -- one that is not empty begins with the first byte
+  same_first : (x : ℕ) (c : List ℕ) → Begins (x ∷ c) bytes → x ≡ first
+  same_first x c b = let on = is in cc (b.is)
 
-module _ (bytes : List ℕ) (at : ℕ) (inside : at < length bytes) (lead : Lead) (leads : Leads (get_or bytes at 0) lead) where
-  -- no character stands there: none of the size that the first byte says
-  begun_none : (lead.size ≤ length bytes - at → is_shown (take lead.size (drop at bytes)) ≡ true → ⊥) → Begun (drop at bytes) 0
-  begun_none none = record {
-    within = omega arith;
-    letter = λ some. absurd (lt_irrefl 0 some);
-    none = λ zero c b. not_so (is_shown c) (no_other c b);
-  }
-    where
-      no_other : (c : List ℕ) → Begins c (drop at bytes) → is_shown c ≡ true → ⊥
-      no_other [] b e = lt_irrefl 0 (letter_some [] e)
-      no_other (x ∷ c) b e =
-          let text : x ∷ (c ++ b.rest) ≡ get_or bytes at 0 ∷ drop (suc at) bytes = b.is ∙ drop-cons bytes at 0 inside in
-          let first : x ≡ get_or bytes at 0 = cc in
-          let size : length (x ∷ c) ≡ lead.size = letter_size (get_or bytes at 0) lead c leads (rw first at e) in
-          let fits : lead.size ≤ length bytes - at = omega (arith, begins_length (x ∷ c) (drop at bytes) b, length-drop at bytes) in
-          none fits (rw (← size, begins_take (x ∷ c) (drop at bytes) b) e)
+  -- no character begins with it
+  pub begun_no : Leads first None → Begun bytes None
+  begun_no h [] b = false_from_ne_true (is_shown []) (λ e. omega (arith, letter_some [] e))
+  begun_no h (x ∷ c) b = rw (same_first x c b) (h c)
 
-  -- the bytes are too few
-  pub begun_short : length bytes - at < lead.size → Begun (drop at bytes) 0
-  begun_short short = begun_none (λ fits e. omega arith)
+  module _ (lead : Lead) (leads : Leads first (Some lead)) where
+    -- a character has the size that the first byte says
+    only : (c : List ℕ) → Begins c bytes → is_shown c ≡ true → length c ≡ suc (length (behind lead))
+    only [] b e = absurd (omega (arith, letter_some [] e))
+    only (x ∷ c) b e =
+        let shown : is_shown (first ∷ c) ≡ true = rw (← same_first x c b) e in
+        ap suc (fits_length (behind lead) c (sym (leads.1 c) ∙ shown))
 
-  -- none or one
-  pub begun_small : lead.size ≤ length bytes - at → lead.size < 2 → Begun (drop at bytes) lead.size
-  begun_small fits small = record {
-    within = omega (arith, length-drop at bytes);
-    letter = λ some. one (omega arith);
-    none = λ zero. (begun_none (λ _ e. lt_irrefl 0 (letter_some [] (rw zero at e)))).none refl;
-  }
-    where
-      one : lead.size ≡ 1 → is_shown (take lead.size (drop at bytes)) ≡ true
-      one e = rw (e, drop-cons bytes at 0 inside) (letter_one (get_or bytes at 0) lead leads e)
+    -- the bytes are too few
+    begun_short : length bytes < suc (length (behind lead)) → Begun bytes None
+    begun_short short = λ c b. false_from_ne_true (is_shown c) (λ e. omega (arith, only c b e, begins_length c bytes b))
 
-  module _ (fits : lead.size ≤ length bytes - at) (long : 2 ≤ lead.size) where
-    is_fitting : is_shown (take lead.size (drop at bytes))
-        ≡ (is_in (range lead.lowest lead.highest) (get_or bytes (at + 1) 0) && are_tails (at + lead.size - (at + 2)) (drop (at + 2) bytes))
-    is_fitting =
-        let size : lead.size ≡ suc (suc (at + lead.size - (at + 2))) = omega arith in
-        ap (λ (text : List ℕ). is_shown (take lead.size text)) (drop_two bytes at (omega arith))
-        ∙ letter_long (get_or bytes at 0) (get_or bytes (at + 1) 0) (at + lead.size - (at + 2)) (drop (at + 2) bytes) lead leads size
+    -- the bytes of that size are one, or none is
+    begun_size : (size : ℕ) (t : Bool) → size ≡ suc (length (behind lead)) → size ≤ length bytes → is_shown (take size bytes) ≡ t
+        → Begun bytes (then_some t size)
+    begun_size size true n within e = record { some = omega arith; within = within; letter = e }
+    begun_size size false n within e = λ c b. false_from_ne_true (is_shown c) (λ shown. absurd (none c b shown))
+      where
+        none : (c : List ℕ) → Begins c bytes → is_shown c ≡ true → ⊥
+        none c b shown =
+            let same = begins_take c bytes b in
+            let long = only c b shown in
+            cc
 
-    -- the second byte is not within its limits
-    pub begun_second : is_in (range lead.lowest lead.highest) (get_or bytes (at + 1) 0) ≡ false → Begun (drop at bytes) 0
-    begun_second off = begun_none (λ _ e. false≢true (sym (is_fitting ∙ rw off) ∙ e))
+  pub begun_one : Leads first (Some One) → Begun bytes (Some 1)
+  unfolding fits
+  begun_one leads = begun_size One leads 1 true refl (omega (arith, ap length is)) (rw is (leads.1 []))
 
-    -- the others are not all tails
-    pub begun_tails : are_tails (at + lead.size - (at + 2)) (drop (at + 2) bytes) ≡ false → Begun (drop at bytes) 0
-    begun_tails off =
-        let second = is_in (range lead.lowest lead.highest) (get_or bytes (at + 1) 0) in
-        begun_none (λ _ e. false≢true (sym (is_fitting ∙ rw off (and-false second)) ∙ e))
+  module _ (size : ℕ) (second : RangeInclusive ℕ) (leads : Leads first (Some (More size second))) where
+    of_size : suc (length (behind (More size second))) ≡ size
+    of_size = let two = leads.0.0 in omega (arith, length-replicate (size - 2) tail)
 
-    pub begun_all : lead.lowest ≤ get_or bytes (at + 1) 0 → get_or bytes (at + 1) 0 ≤ lead.highest
-        → are_tails (at + lead.size - (at + 2)) (drop (at + 2) bytes) ≡ true → Begun (drop at bytes) lead.size
-    begun_all low high all = record {
-      within = omega (arith, length-drop at bytes);
-      letter = λ some. is_fitting ∙ rw (le-leb lead.lowest (get_or bytes (at + 1) 0) low, le-leb (get_or bytes (at + 1) 0) lead.highest high, all);
-      none = λ zero. absurd (omega arith);
-    }
+    pub begun_few : length bytes < size → Begun bytes None
+    begun_few few = begun_short (More size second) leads (rw of_size few)
+
+    shown : (character : List ℕ) → length character ≡ size → get_or character 0 0 ≡ first
+        → is_shown character ≡ (is_in (range_of second) (get_or character 1 0) && are_tails (drop 2 character))
+    unfolding fits
+    shown [] n e = let two = leads.0.0 in absurd (omega arith)
+    shown (a ∷ []) n e = let two = leads.0.0 in absurd (omega arith)
+    shown (a ∷ b ∷ rest) n e =
+        let left : size - 2 ≡ length rest = omega arith in
+        rw (e, leads.1 (b ∷ rest), left, fits_tails rest)
+
+    pub begun_many : (character : List ℕ) → character ≡ take size bytes → size ≤ length bytes
+        → Begun bytes (then_some (is_in (range_of second) (get_or character 1 0) && are_tails (drop 2 character)) size)
+    begun_many character e many =
+        begun_size (More size second) leads size _ (sym of_size) many (ap is_shown (sym e) ∙ shown character length_is first_is)
+      where
+        length_is : length character ≡ size
+        length_is = rw e (length-take-le size bytes many)
+
+        first_is : get_or character 0 0 ≡ first
+        first_is = let two = leads.0.0 in rw e (get_or-take size bytes 0 0 (omega arith) ∙ ap (λ (b : List ℕ). get_or b 0 0) is)

@@ -13,7 +13,8 @@ use borrow.Author.Tests.{ltb-true, le-leb}
 use Rattle.limits.specs.Limits.{longest_short}
 use Rattle.label_bytes.specs.Characters.{table, fits, fits_one, is_character, Each, joined, WellFormed}
 use Rattle.label_bytes.specs.Label.{is_shown, IsLabel, is_label, Begins, Short, IsShortened, shortened}
-use Rattle.label_bytes.proofs.Tests.{both, same_test}
+use Rattle.std.proofs.lemmas.Bool.{and_parts}
+use Rattle.std.specs.Cmp.{both_ways}
 use Rattle.label_bytes.proofs.Lists.{begins_take}
 use Rattle.label_bytes.proofs.Letters.{letter_length, letter_some, character_some, character_once, letter_character}
 use Rattle.label_bytes.proofs.Beginnings.{made_none, made_one, made_more, made_append, First, first_of, first_begins}
@@ -26,7 +27,7 @@ label_test bytes = whole_test bytes [] bytes refl unfinished_none
 
 -- what decides a label is the test
 pub test_is : (r : Bool) (bytes : List ℕ) → ((r ≡ true) ↔ IsLabel bytes) → r ≡ is_label bytes
-test_is r bytes d = same_test r (is_label bytes) (λ e. (label_test bytes).1 (d.0 e)) (λ e. d.1 ((label_test bytes).0 e))
+test_is r bytes d = both_ways r (is_label bytes) (λ e. (label_test bytes).1 (d.0 e)) (λ e. d.1 ((label_test bytes).0 e))
 
 -- ---- the shortened form
 
@@ -110,5 +111,5 @@ plain_character b h = rw (le-leb 0x00 b (omega arith), le-leb b 0x7f (omega arit
 pub plain_well_formed : (bytes : List ℕ) → all_plain bytes ≡ true → WellFormed bytes
 plain_well_formed [] e = made_none is_character
 plain_well_formed (b ∷ bytes) e =
-    let parts = both (ltb b 0x80) (all_plain bytes) e in
+    let parts = and_parts (ltb b 0x80) (all_plain bytes) e in
     made_more is_character (b ∷ []) bytes (plain_character b (ltb-true b 0x80 parts.0)) (plain_well_formed bytes parts.1)

@@ -11,7 +11,8 @@ use lib.Dec.{leb, eqb}
 use borrow.Author.Tests.{le-leb, ne_eqb, eqb-false, not-true}
 use Rattle.label_bytes.specs.Characters.{Range, range, table, is_in, fits, fits_one, is_character, code_point}
 use Rattle.label_bytes.specs.Label.{is_shown}
-use Rattle.label_bytes.proofs.Tests.{both, same_test}
+use Rattle.std.proofs.lemmas.Bool.{and_parts}
+use Rattle.std.specs.Cmp.{both_ways}
 use Rattle.label_bytes.proofs.Table.{in_range, holds_one, outside, all_apart, fits_once}
 
 -- ---- their table
@@ -40,13 +41,13 @@ unfolding fits
 plain_allowed [] = refl
 plain_allowed (a ∷ b ∷ rest) = rw (and-false (is_in (range 0x00 0x7f) a), and-false (is_in (range 0x20 0x7e) a))
 plain_allowed (a ∷ []) =
-    rw (and-true (is_in (range 0x00 0x7f) a), and-true (is_in (range 0x20 0x7e) a)) (same_test _ _ to from)
+    rw (and-true (is_in (range 0x00 0x7f) a), and-true (is_in (range 0x20 0x7e) a)) (both_ways _ _ to from)
   where
     to : (is_in (range 0x00 0x7f) a && is_allowed a) ≡ true → is_in (range 0x20 0x7e) a ≡ true
     to e =
-        let parts = both (is_in (range 0x00 0x7f) a) (is_allowed a) e in
+        let parts = and_parts (is_in (range 0x00 0x7f) a) (is_allowed a) e in
         let limits = in_range (range 0x00 0x7f) a parts.0 in
-        let point = both (leb 0x20 a) (not (eqb a 0x7f)) parts.1 in
+        let point = and_parts (leb 0x20 a) (not (eqb a 0x7f)) parts.1 in
         let other : a ≡ 0x7f → ⊥ = eqb-false a 0x7f (not-true _ point.1) in
         rw (point.0, le-leb a 0x7e (omega arith))
 
@@ -77,7 +78,7 @@ letter_length character e =
 
 pub letter_character : (character : List ℕ) → is_shown character ≡ true → is_character character ≡ true
 unfolding is_shown
-letter_character character e = (both (is_character character) _ e).0
+letter_character character e = (and_parts (is_character character) _ e).0
 
 pub character_some : (character : List ℕ) → is_character character ≡ true → 0 < length character
 unfolding table fits_one fits

@@ -1,5 +1,4 @@
 -- The laws behind the functions' proofs, from tests to labels. The crates above cite those that are pub.
-mod Tests
 mod Lists
 mod Table
 mod Letters

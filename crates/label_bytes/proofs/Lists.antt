@@ -1,23 +1,16 @@
--- Laws of lists alone: what stands next, two beginnings of one list, and what follows them. Assumes nothing.
-use Prim.Native.Nat.{ℕ, suc, ◌+◌, ◌≤◌, ◌<◌}
+-- Laws of lists alone: two beginnings of one list, and what follows them. Assumes nothing.
+use Prim.Native.Nat.{ℕ, ◌≤◌}
 use mathlib.Core.Path.{◌≡◌, sym, ap, ◌∙◌}
-use mathlib.Core.List.{List, ◌∷◌, ◌++◌, append_assoc}
-use native.Mathlib.Numerals.{add-one}
+use mathlib.Core.List.{List, ◌++◌, append_assoc}
 use native.Mathlib.Omega.{arith}
-use lib.ListN.{length, take, drop, get_or, length-append, take-append-drop}
-use lib.Seq.{drop-cons, take-append_seam, drop-append_seam, take-append-le}
+use lib.ListN.{length, take, drop, length-append, take-append-drop}
+use lib.Seq.{take-append_seam, drop-append_seam, take-append-le}
 use Rattle.label_bytes.specs.Label.{Begins}
 
 -- fronts of one length
 pub same_front : (xs ys us vs : List ℕ) → length xs ≡ length ys → xs ++ us ≡ ys ++ vs → (xs ≡ ys) × (us ≡ vs)
 same_front xs ys us vs n p =
     (cc (take-append_seam xs us, take-append_seam ys vs), cc (drop-append_seam xs us, drop-append_seam ys vs))
-
--- the next two
-pub drop_two : (bytes : List ℕ) (at : ℕ) → at + 1 < length bytes → drop at bytes ≡ get_or bytes at 0 ∷ get_or bytes (at + 1) 0 ∷ drop (at + 2) bytes
-drop_two bytes at h =
-    let next : at + 2 ≡ suc (suc at) = omega arith in
-    rw (add-one at, next, drop-cons bytes at 0 (omega arith), drop-cons bytes (suc at) 0 (omega arith))
 
 -- a beginning is no longer than the whole
 pub begins_length : (beginning bytes : List ℕ) → Begins beginning bytes → length beginning ≤ length bytes

@@ -1,20 +1,14 @@
 -- The characters passed, up to an end: with the longest beginning of what is left in the room that is left, they are the longest of the whole. So they
--- are that by themselves where no further character fits; and the longest is all of the bytes exactly in a label.
+-- are that by themselves where no further character fits.
 -- Assumes nothing.
-use Prim.Native.Nat.{ℕ, ◌+◌, ◌-◌, ◌≤◌, ◌<◌}
-use mathlib.Core.Path.{◌≡◌, sym, ap, subst, ◌∙◌}
-use mathlib.Core.Logic.{◌↔◌}
-use mathlib.Core.Bool.{true, false≢true}
-use mathlib.Core.List.{List, [], ◌++◌, append_assoc, append-nil}
+use Rattle.std.proofs.Common.{ℕ, ◌+◌, ◌-◌, ◌≤◌, ◌<◌, ◌≡◌, sym, ap, subst, ◌∙◌, true, List, [], ◌++◌, None, append_assoc, append-nil, length, take, drop}
+use mathlib.Core.Bool.{false≢true}
 use native.Mathlib.Omega.{arith}
-use lib.ListN.{length, take, drop, length-drop, take-append-drop}
-use lib.Seq.{take-length, length-take-le, take-add, drop-drop}
-use lib.Dec.{eqb}
-use borrow.Author.Tests.{eqb-true, eq-eqb}
-use Rattle.label_bytes.specs.Label.{is_shown, IsLabel, Begins, Short, LongestBeginning}
-use Rattle.label_bytes.specs.inner.Working.{Begun, WholeTo}
-use Rattle.label_bytes.proofs.Lists.{begins_length}
-use Rattle.label_bytes.proofs.Letters.{letter_some, letter_once}
+use lib.ListN.{length-drop, take-append-drop}
+use lib.Seq.{length-take-le, take-add, drop-drop}
+use Rattle.label_bytes.specs.Label.{is_shown, Begins, LongestBeginning}
+use Rattle.label_bytes.specs.inner.Working.{InFront, Begun, WholeTo}
+use Rattle.label_bytes.proofs.Letters.{letter_once}
 use Rattle.label_bytes.proofs.Beginnings.{longest_none, longest_more}
 
 pub record Passed (most : ℕ) (bytes : List ℕ) (end : ℕ) : Type 0 where
@@ -34,57 +28,36 @@ module _ (most : ℕ) (bytes : List ℕ) where
     stays : LongestBeginning (most - end) (drop end bytes) [] → WholeTo most bytes end
     stays l = record { within = p.within; longest = subst (LongestBeginning most bytes) (append-nil (take end bytes)) (p.goes_on [] l) }
 
-    -- nothing is left
-    pub passed_out : length bytes ≤ end → WholeTo most bytes end
-    passed_out out = stays (longest_none (most - end) (drop end bytes) none)
-      where
-        none : (c : List ℕ) → is_shown c ≡ true → Begins c (drop end bytes) → most - end < length c
-        none c e b = omega (arith, letter_some c e, begins_length c (drop end bytes) b, length-drop end bytes)
+    -- no character stands there
+    pub passed_no : Begun (drop end bytes) None → WholeTo most bytes end
+    passed_no none = stays (longest_none (most - end) (drop end bytes) (λ c e b. absurd (false≢true (sym (none c b) ∙ e))))
 
-    module _ (size : ℕ) (begun : Begun (drop end bytes) size) where
-      -- no character stands there
-      pub passed_no : size ≡ 0 → WholeTo most bytes end
-      passed_no zero =
-          stays (longest_none (most - end) (drop end bytes) (λ c e b. absurd (false≢true (sym (begun.none zero c b) ∙ e))))
+    module _ (size : ℕ) (begun : InFront size (drop end bytes)) where
+      here : List ℕ
+      here = take size (drop end bytes)
 
-      module _ (some : 0 < size) where
-        here : List ℕ
-        here = take size (drop end bytes)
+      -- the character is too long
+      pub passed_over : most - end < size → WholeTo most bytes end
+      unfolding here
+      passed_over over = stays (longest_none (most - end) (drop end bytes) long)
+        where
+          long : (c : List ℕ) → is_shown c ≡ true → Begins c (drop end bytes) → most - end < length c
+          long c e b =
+              let whole = b.is ∙ sym (take-append-drop size (drop end bytes)) in
+              let same = (letter_once c here b.rest (drop size (drop end bytes)) e begun.letter whole).0 in
+              omega (arith, ap length same, length-take-le size (drop end bytes) begun.within)
 
-        -- the character is too long
-        pub passed_over : most - end < size → WholeTo most bytes end
-        unfolding here
-        passed_over over = stays (longest_none (most - end) (drop end bytes) long)
-          where
-            long : (c : List ℕ) → is_shown c ≡ true → Begins c (drop end bytes) → most - end < length c
-            long c e b =
-                let whole = b.is ∙ sym (take-append-drop size (drop end bytes)) in
-                let same = (letter_once c here b.rest (drop size (drop end bytes)) e (begun.letter some) whole).0 in
-                omega (arith, ap length same, length-take-le size (drop end bytes) begun.within)
-
-        -- it is passed
-        pub passed_more : size ≤ most - end → Passed most bytes (end + size)
-        unfolding here
-        passed_more fits = record {
-          within = omega (arith, begun.within, length-drop end bytes, p.within);
-          short = omega (arith, p.short);
-          goes_on = λ rest l. rw (take-add end size bytes, append_assoc) (p.goes_on (here ++ rest) (behind rest l));
-        }
-          where
-            behind : (rest : List ℕ) → LongestBeginning (most - (end + size)) (drop (end + size) bytes) rest → LongestBeginning (most - end) (drop end bytes) (here ++ rest)
-            behind rest l =
-                let room : length here + (most - (end + size)) ≡ most - end = omega (arith, length-take-le size (drop end bytes) begun.within, p.short) in
-                let text : here ++ drop (end + size) bytes ≡ drop end bytes = rw (← drop-drop size end bytes) (take-append-drop size (drop end bytes)) in
-                rw (room, text) at (longest_more (most - (end + size)) here (drop (end + size) bytes) rest (begun.letter some) l)
-
--- the longest is all of the bytes exactly in a label
-pub whole_label : (bytes : List ℕ) (end : ℕ) → WholeTo (length bytes) bytes end → (eqb end (length bytes) ≡ true) ↔ IsLabel bytes
-whole_label bytes end w = (to, from)
-  where
-    to : eqb end (length bytes) ≡ true → IsLabel bytes
-    to e = subst IsLabel (ap (λ (n : ℕ). take n bytes) (eqb-true end (length bytes) e) ∙ take-length bytes) w.longest.is.whole
-
-    from : IsLabel bytes → eqb end (length bytes) ≡ true
-    from m =
-        let itself : Short (length bytes) bytes bytes = record { begins = record { rest = []; is = append-nil bytes }; short = omega arith; whole = m } in
-        eq-eqb end (length bytes) (omega (arith, w.longest.longest bytes itself, length-take-le end bytes w.within, w.within))
+      -- it is passed
+      pub passed_more : size ≤ most - end → Passed most bytes (end + size)
+      unfolding here
+      passed_more fits = record {
+        within = omega (arith, begun.within, length-drop end bytes, p.within);
+        short = omega (arith, p.short);
+        goes_on = λ rest l. rw (take-add end size bytes, append_assoc) (p.goes_on (here ++ rest) (behind rest l));
+      }
+        where
+          behind : (rest : List ℕ) → LongestBeginning (most - (end + size)) (drop (end + size) bytes) rest → LongestBeginning (most - end) (drop end bytes) (here ++ rest)
+          behind rest l =
+              let room : length here + (most - (end + size)) ≡ most - end = omega (arith, length-take-le size (drop end bytes) begun.within, p.short) in
+              let text : here ++ drop (end + size) bytes ≡ drop end bytes = rw (← drop-drop size end bytes) (take-append-drop size (drop end bytes)) in
+              rw (room, text) at (longest_more (most - (end + size)) here (drop (end + size) bytes) rest begun.letter l)

@@ -3,92 +3,71 @@
 // ask, and `shortened` is the longest whole-character beginning of at most 24 bytes, of any bytes whatever.
 #![tactic(auto)]
 
-ghost use Rattle.std.specs.Prelude.{◌≡◌, true, ◌↔◌, ◌-◌, ◌<◌, ◌≤◌, length, drop};
+ghost use Rattle.std.specs.Prelude.{◌≡◌, true, ◌↔◌, Some};
+ghost use Rattle.label_bytes.specs.declared.Lead.TheVariants.{More};
 ghost use Rattle.label_bytes.specs.Label.{IsLabel, IsShortened};
 ghost use Rattle.label_bytes.specs.inner.Working.{are_tails, Leads, Begun, WholeTo};
 
 use limits::LONGEST_SHORT;
-
-// What a first byte says of its character: how many bytes it has, none where no character of a label begins so, and the limits of the second.
-#[derive(Clone, Copy)]
-struct Lead {
-    size: usize,
-    lowest: u8,
-    highest: u8,
-}
-
-// A row of the table.
-fn row(size: usize, lowest: u8, highest: u8) -> Lead
-    ensures { result ≡ record { size = size; lowest = lowest; highest = highest } }
-{
-    Lead {
-        size,
-        lowest,
-        highest,
-    }
-}
+use std::ops::RangeInclusive;
 
 // What a first byte says of its character.
-fn lead_of(first: u8) -> Lead
+#[derive(Drop)]
+enum Lead {
+    // The byte is all of it.
+    One,
+    // It has more bytes, so many in all, and the second is in this range.
+    More {
+        size: usize,
+        second: RangeInclusive<u8>,
+    },
+}
+
+// A row of the table, of more than one byte.
+fn row(size: usize, second: RangeInclusive<u8>) -> Option<Lead>
+    ensures { result ≡ Some (More size second) }
+{
+    Some(Lead::More { size, second })
+}
+
+// What a first byte says of its character; none where no character of a label begins so.
+#[tactic(auto, using(crate::proofs::Leads::rows))]
+fn lead_of(first: u8) -> Option<Lead>
     ensures { Leads first result }
 {
     match first {
-        0x20..=0x7e => row(1, 0x00, 0x00),
-        0xc2..=0xdf => row(2, 0x80, 0xbf),
-        0xe0 => row(3, 0xa0, 0xbf),
-        0xe1..=0xec => row(3, 0x80, 0xbf),
-        0xed => row(3, 0x80, 0x9f),
-        0xee..=0xef => row(3, 0x80, 0xbf),
-        0xf0 => row(4, 0x90, 0xbf),
-        0xf1..=0xf3 => row(4, 0x80, 0xbf),
-        0xf4 => row(4, 0x80, 0x8f),
-        _ => row(0, 0x00, 0x00),
+        0x20..=0x7e => Some(Lead::One),
+        0xc2..=0xdf => row(2, 0x80..=0xbf),
+        0xe0 => row(3, 0xa0..=0xbf),
+        0xe1..=0xec => row(3, 0x80..=0xbf),
+        0xed => row(3, 0x80..=0x9f),
+        0xee..=0xef => row(3, 0x80..=0xbf),
+        0xf0 => row(4, 0x90..=0xbf),
+        0xf1..=0xf3 => row(4, 0x80..=0xbf),
+        0xf4 => row(4, 0x80..=0x8f),
+        _ => None,
     }
 }
 
-// Whether the bytes from `start` to `end` are all tails.
-fn all_tails(bytes: &[u8], start: usize, end: usize) -> bool
-    requires { end ≤ length bytes.now }
-    ensures { result ≡ are_tails (end - start) (drop start bytes.now) }
+// Whether these bytes are all tails.
+fn are_tails(bytes: &[u8]) -> bool
+    ensures { result ≡ are_tails bytes.now }
 {
-    let mut at = start;
-    while at < end {
-        let byte = bytes[at];
-        if byte < 0x80 {
-            return false;
-        }
-        if 0xbf < byte {
-            return false;
-        }
-        at += 1;
-    }
-    true
+    bytes.iter().all(|byte| matches!(*byte, 0x80..=0xbf))
 }
 
-// How many bytes the character has that stands at `at`; none where no whole character of a label stands there.
-fn character_at(bytes: &[u8], at: usize) -> usize
-    requires { at < length bytes.now }
-    ensures { Begun (drop at bytes.now) result }
+// How many bytes the character has that these begin with; none where they begin with no whole character of a label.
+fn first_character(bytes: &[u8]) -> Option<usize>
+    ensures { Begun bytes.now result }
 {
-    let lead = lead_of(bytes[at]);
-    let size = lead.size;
-    if bytes.len() - at < size {
-        return 0;
+    match lead_of(*bytes.first()?)? {
+        Lead::One => Some(1),
+        Lead::More { size, second } => {
+            let character = bytes.get(..size)?;
+            let fits = second.contains(&character[1]) && are_tails(&character[2..]);
+            fits.then_some(size)
+        }
     }
-    if size < 2 {
-        return size;
-    }
-    let second = bytes[at + 1];
-    if second < lead.lowest {
-        return 0;
-    }
-    if lead.highest < second {
-        return 0;
-    }
-    if !all_tails(bytes, at + 2, at + size) {
-        return 0;
-    }
-    size
 }
 
 // How long the longest beginning of whole characters is that has at most `most` bytes.
@@ -96,11 +75,8 @@ fn whole(bytes: &[u8], most: usize) -> usize
     ensures { WholeTo most bytes.now result }
 {
     let mut end = 0;
-    while end < bytes.len() {
-        let size = character_at(bytes, end);
-        if size == 0 {
-            return end;
-        }
+    // A while: the step is a whole character, so no iterator counts it.
+    while let Some(size) = first_character(&bytes[end..]) {
         if most - end < size {
             return end;
         }

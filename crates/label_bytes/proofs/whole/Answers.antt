@@ -1,28 +1,19 @@
--- `whole`: up to the end so far the characters are passed; where no further one fits they are the longest. The measure is what is left of the bytes.
--- Assumes nothing.
-use native.Mathlib.Omega.{arith}
-use Rattle.label_bytes.proofs.Passed.{passed_none, passed_out, passed_no, passed_over, passed_more}
+-- `whole`: up to the end so far the characters are passed; where no further one fits they are the longest. Assumes nothing.
+use Rattle.std.proofs.Common.{arith, length-drop}
+use Rattle.std.proofs.lemmas.List.{take_rest}
+use Rattle.label_bytes.proofs.Passed.{passed_no, passed_over, passed_more}
 use Rattle.label_bytes.proofs.whole.Goals as goal
 
-pub loop-end-init : goal.loop-end-init
-loop-end-init c = passed_none _ _
-
-pub returns-then-size-eq0 : goal.returns-then-size-eq0
-returns-then-size-eq0 c =
-    let loop = c.loop-end in
-    passed_no _ _ loop.end loop.invariant _ c.character_at-size.ensures c.if-size-eq0.true
-
 pub returns-then-most-end : goal.returns-then-most-end
-returns-then-most-end c =
-    let loop = c.loop-end in
-    let found = c.character_at-size in
-    passed_over _ _ loop.end loop.invariant found.result found.ensures (omega arith) (omega arith)
+returns-then-most-end c = passed_over _ _ c.loop-size.end c.loop-size.invariant c.in-Some.size (rw take_rest at c.in-Some.ensures) c.if-most-end.true
 
-pub loop-end-preserved : goal.loop-end-preserved
-loop-end-preserved c =
-    let loop = c.loop-end in
-    let found = c.character_at-size in
-    passed_more _ _ loop.end loop.invariant found.result found.ensures (omega arith) c.if-most-end.false
+pub loop-size-smaller : goal.loop-size-smaller
+loop-size-smaller c =
+    let front = rw take_rest at c.in-Some.ensures in
+    omega (arith, length-drop c.loop-size.end c.args.bytes.now)
+
+pub loop-size-preserved : goal.loop-size-preserved
+loop-size-preserved c = passed_more _ _ c.loop-size.end c.loop-size.invariant c.in-Some.size (rw take_rest at c.in-Some.ensures) c.if-most-end.false
 
 pub returns : goal.returns
-returns c = passed_out _ _ c.loop-end.end c.loop-end.invariant (omega arith)
+returns c = passed_no _ _ c.loop-size.end c.loop-size.invariant (rw take_rest at c.in_default.ensures)
