@@ -1,7 +1,0 @@
--- `limit_place`: the tests of the definition, in its order. Assumes nothing.
-use Rattle.byte_places.specs.BytePlaces.{first_fault_from, limit_faults}
-use Rattle.byte_places.proofs.limit_place.Goals as goal
-
-pub returns : goal.returns
-unfolding first_fault_from limit_faults
-returns c = rw (← c.is_off.ensures) c.first_fault.ensures

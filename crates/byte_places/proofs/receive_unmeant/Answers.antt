@@ -1,7 +1,0 @@
--- `receive_unmeant`: the tests of the definition, in its order. Assumes nothing.
-use Rattle.byte_places.specs.BytePlaces.{first_fault_from, receive_unmeant}
-use Rattle.byte_places.proofs.receive_unmeant.Goals as goal
-
-pub returns : goal.returns
-unfolding first_fault_from receive_unmeant
-returns c = rw (← c.is_nothing.ensures) c.first_fault.ensures
