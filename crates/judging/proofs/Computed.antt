@@ -1,81 +1,76 @@
--- The verdict that the checker computes is the one that the definitions declare: its tests decide, and it goes through the places in their
+-- The verdict that the checker computes is the one that the definitions declare: its tests decide, and it goes through the levels and channels in their
 -- order. Assumes nothing.
 use Prim.Native.Nat.{ℕ, zero, suc, ◌+◌, ◌<◌}
 use mathlib.Core.Bool.{Bool, true, false, cond}
-use mathlib.Core.Path.{◌≡◌, refl}
-use native.Mathlib.Omega.{arith}
-use borrow.Author.Count.{below_more}
-use borrow.Author.Tests.{eqb-true, eqb-false, ltb-true, ltb-false, leb-true, leb-false}
-use lib.Dec.{eqb, ltb, leb}
-use Rattle.limits.specs.Limits.{outermost, place_of}
-use Rattle.sets.specs.Set.{Set, none, Members, is_none, Decides}
+use mathlib.Core.Path.{◌≡◌, refl, subst}
+use Rattle.std.proofs.Common.{arith, rules, tests}
+use borrow.Author.Tests.{eqb-true, eqb-false}
+use lib.Dec.{eqb}
+use Rattle.limits.specs.Limits.{most_channels, levels, place_of}
+use Rattle.sets.specs.Set.{Set, is_none, Decides}
 use Rattle.sets.specs.Rows.{set_at}
 use Rattle.sets.specs.inner.Compute.{shared, lowest}
-use Rattle.sets.proofs.Decide.{says_yes, says_no}
-use Rattle.sets.proofs.Minimum.{none_empty, members_none}
+use Rattle.sets.proofs.Minimum.{none_empty}
 use Rattle.sets.proofs.Computed.{shared_members, lowest_least}
 use Rattle.solving.specs.declared.Solution.{Solution}
 use Rattle.solving.specs.declared.Solved.{Solved}
 use Rattle.solving.specs.Solutions.{members_in}
+use Rattle.judging.specs.declared.Verdict.{Verdict}
 use Rattle.judging.specs.declared.Verdict.TheVariants.{Unjudged, No}
 use Rattle.judging.specs.Verdict.{Lower}
 use Rattle.judging.specs.Judge.{VerdictOn, VerdictBeside}
-use Rattle.judging.specs.inner.Compute.{places, higher_at, lower_at, channel_at, breach_at, is_lower, going_down, verdict_from, verdict_of, verdict_for}
-use Rattle.judging.proofs.Places.{GoesDown, Quiet, lower_members, none_members, quiet_discreet, least_first}
+use Rattle.judging.specs.inner.Compute.{is_lower, verdict_from, verdict_on, verdict_to, verdict_of, verdict_for}
+use Rattle.judging.proofs.Turns.{QuietFrom, QuietTo, QuietOn, on_more, to_more, to_skip, from_more, all_quiet, first_breach}
 use Rattle.judging.proofs.Verdicts.{discreet_yes, breach_no}
 
 lower_decided : (k g h : ℕ) → Decides (is_lower k g h) (Lower k g h)
-lower_decided k g h = go (eqb g outermost) (eqb h outermost) (leb h k) (ltb g h) refl refl refl refl
-  where
-    go : (a b c d : Bool) → eqb g outermost ≡ a → eqb h outermost ≡ b → leb h k ≡ c → ltb g h ≡ d
-        → Decides (cond a false (cond b false (cond c d false))) (Lower k g h)
-    go true b c d p q r s = says_no (λ w. w.low (eqb-true g outermost p))
-    go false true c d p q r s = says_no (λ w. w.high (eqb-true h outermost q))
-    go false false false d p q r s = says_no (λ w. omega (arith, w.top, leb-false h k r))
-    go false false true false p q r s = says_no (λ w. omega (arith, w.below, ltb-false g h s))
-    go false false true true p q r s = says_yes (record {
-      top = leb-true h k r;
-      below = ltb-true g h s;
-      low = eqb-false g outermost p;
-      high = eqb-false h outermost q;
-    })
+lower_decided k g h = record { yes = λ e. search (rules, tests); no = λ e w. search (rules, tests) }
+
+-- R holds of the verdict of so many turns, if each turn has it from what is known before the turn and from what it will be of the verdict later
+module _ (R : Verdict → Type 0) (Known : ℕ → Type 0) (turn : ℕ → Verdict → Verdict) (count : ℕ)
+    (step : (n : ℕ) → n < count → Known n → (later : Verdict) → (Known (n + 1) → R later) → R (turn n later)) (end : Verdict) (last : Known count → R end) where
+  turns : (left n : ℕ) → n + left ≡ count → Known n → R (verdict_from turn left n end)
+  unfolding verdict_from
+  turns zero n e known = let e : n ≡ count = omega arith in last (subst Known e known)
+  turns (suc left) n e known =
+      let later = turns left (suc n) (omega arith) in
+      let next : n + 1 ≡ suc n = omega arith in
+      step n (omega arith) known _ (λ more. later (subst Known next more))
 
 module _ (k : ℕ) (s : Solution) where
-  going_down_members : (n : ℕ) → Members (going_down k s n) (GoesDown (Lower k) s.outs s.ins n)
-  going_down_members n = go (is_lower k (lower_at n) (higher_at n)) (lower_decided k (lower_at n) (higher_at n))
-    where
-      sent : Set
-      sent = set_at s.outs (place_of (higher_at n) (channel_at n))
+  abbrev Judged : Verdict → Type 0
+  Judged = VerdictOn (Lower k) (members_in s)
 
-      received : Set
-      received = set_at s.ins (place_of (lower_at n) (channel_at n))
-
-      go : (t : Bool) → Decides t (Lower k (lower_at n) (higher_at n))
-          → Members (cond t (shared sent received) none) (GoesDown (Lower k) s.outs s.ins n)
-      go true d = lower_members sent received (shared sent received) (d.yes refl) (shared_members sent received)
-      go false d = none_members sent received (d.no refl)
-
-  computed_from : (left n : ℕ) → n + left ≡ places → ((j : ℕ) → j < n → Quiet (Lower k) s.outs s.ins j)
-      → VerdictOn (Lower k) (members_in s) (verdict_from k s left n)
-  unfolding verdict_from
-  computed_from zero n e q = discreet_yes (quiet_discreet (Lower k) s (λ j l. q j (omega arith)))
-  computed_from (suc left) n e q = go (is_none handles) refl (computed_from left (suc n) (omega arith))
+  on_turn : (h g : ℕ) → h < levels → g < levels → Lower k g h → QuietFrom (Lower k) s h → QuietTo (Lower k) s h g
+      → (c : ℕ) → c < most_channels → QuietOn (Lower k) s h g c → (later : Verdict) → (QuietOn (Lower k) s h g (c + 1) → Judged later) → Judged (verdict_on s h g c later)
+  on_turn h g h_fits g_fits l from to c c_fits on later next = go (is_none handles) refl
     where
       handles : Set
-      handles = going_down k s n
+      handles = shared (set_at s.outs (place_of h c)) (set_at s.ins (place_of g c))
 
-      go : (b : Bool) → is_none handles ≡ b
-          → (((j : ℕ) → j < suc n → Quiet (Lower k) s.outs s.ins j) → VerdictOn (Lower k) (members_in s) (verdict_from k s left (suc n)))
-          → VerdictOn (Lower k) (members_in s) (cond b (verdict_from k s left (suc n)) (No (breach_at n (lowest handles))))
-      go true t later =
-          let quiet = members_none handles _ (going_down_members n) (none_empty handles t) in
-          later (λ j l. below_more _ n q quiet j (omega arith))
-      go false t later =
-          let least = lowest_least handles t in
-          breach_no _ (least_first (Lower k) s n _ handles (omega arith) q (going_down_members n) least)
+      go : (b : Bool) → is_none handles ≡ b → Judged (cond b later (No (record { higher = h; lower = g; channel = c; handle = lowest handles })))
+      go true t = next (on_more (Lower k) s h g c (shared_members _ _) (none_empty handles t) on)
+      go false t = breach_no _ (first_breach (Lower k) s h g c _ h_fits g_fits c_fits (shared_members _ _) l (lowest_least handles t) from to on)
 
-  pub verdict_computed : VerdictOn (Lower k) (members_in s) (verdict_of k s)
-  verdict_computed = computed_from places 0 refl (λ j l. absurd (omega arith))
+  to_turn : (h : ℕ) → h < levels → QuietFrom (Lower k) s h
+      → (g : ℕ) → g < levels → QuietTo (Lower k) s h g → (later : Verdict) → (QuietTo (Lower k) s h (g + 1) → Judged later) → Judged (verdict_to k s h g later)
+  to_turn h h_fits from g g_fits to later next = go (is_lower k g h) (lower_decided k g h)
+    where
+      go : (b : Bool) → Decides b (Lower k g h) → Judged (cond b (verdict_from (verdict_on s h g) most_channels 0 later) later)
+      go true d =
+          let last = λ (on : QuietOn (Lower k) s h g most_channels). next (to_more (Lower k) s h g on to) in
+          turns Judged (QuietOn (Lower k) s h g) _ most_channels (on_turn h g h_fits g_fits (d.yes refl) from to) later last most_channels 0 refl (λ j l. absurd (omega arith))
+      go false d = next (to_skip (Lower k) s h g (d.no refl) to)
+
+  from_turn : (h : ℕ) → h < levels → QuietFrom (Lower k) s h → (later : Verdict) → (QuietFrom (Lower k) s (h + 1) → Judged later)
+      → Judged (verdict_from (verdict_to k s h) levels 0 later)
+  from_turn h h_fits from later next =
+      let last = λ (to : QuietTo (Lower k) s h levels). next (from_more (Lower k) s h to from) in
+      turns Judged (QuietTo (Lower k) s h) _ levels (to_turn h h_fits from) later last levels 0 refl (λ j l. absurd (omega arith))
+
+  verdict_computed : Judged (verdict_of k s)
+  verdict_computed =
+      turns Judged (QuietFrom (Lower k) s) _ levels from_turn _ (λ from. discreet_yes (all_quiet (Lower k) s from)) levels 0 refl (λ j l. absurd (omega arith))
 
 pub verdict_for_computed : (s : Solved) → VerdictBeside s (verdict_for s)
 verdict_for_computed s = go (eqb s.refusal.number 0) refl

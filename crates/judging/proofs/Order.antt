@@ -1,16 +1,12 @@
--- The order of breaches: two that stand before one another are the same, so that there is one first breach; and at
--- different places the one at the smaller place stands before. Assumes nothing.
-use Prim.Native.Nat.{ℕ, ◌/◌, ◌<◌, ◌≤◌}
-use mathlib.Core.Path.{◌≡◌}
+-- The order of breaches: two that stand before one another are the same, so that there is one first breach. Assumes nothing.
+use Prim.Native.Nat.{ℕ, ◌<◌}
+use mathlib.Core.Path.{◌≡◌, subst⁻¹}
 use mathlib.Core.Logic.{inl, inr}
 use native.Mathlib.Decide.{dec_lt}
 use native.Mathlib.Omega.{arith}
-use Rattle.limits.specs.Limits.{most_channels, levels}
-use Rattle.limits.proofs.Places.{levels_in_turn, channels_in_turn, same_place}
 use Rattle.solving.specs.Solutions.{Sets}
 use Rattle.judging.specs.declared.Breach.{Breach}
 use Rattle.judging.specs.Verdict.{InTurn, NotAfter, FirstBreach}
-use Rattle.judging.specs.inner.Compute.{breach_at}
 
 pub same_breach : {b d : Breach} → b.higher ≡ d.higher → b.lower ≡ d.lower → b.channel ≡ d.channel → b.handle ≡ d.handle → b ≡ d
 same_breach p q r s = λ i. record { higher = p i; lower = q i; channel = r i; handle = s i }
@@ -31,18 +27,10 @@ not_after_both x y =
 pub first_once : {lower : ℕ → ℕ → Type 0} {s : Sets} {b d : Breach} → FirstBreach lower s b → FirstBreach lower s d → b ≡ d
 first_once {lower} {s} {b} {d} x y = not_after_both (x.first d y.breach) (y.first b x.breach)
 
-in_turn : {m n : ℕ} {A : Type 0} → m ≤ n → (m ≡ n → A) → InTurn m n A
-in_turn {m} {n} {A} l rest = go (dec_lt m n)
+-- where m is known to be no later than n, what holds at n holds at m if they are the same
+pub in_turn : {m n : ℕ} {A : Type 0} (P : ℕ → Type 0) → P n → (n < m → ⊥) → (P m → A) → InTurn m n A
+in_turn {m} {n} {A} P p before rest = go (dec_lt m n)
   where
     go : Dec (m < n) → InTurn m n A
     go (yes x) = inl x
-    go (no x) = let e : m ≡ n = omega arith in inr (e, rest e)
-
--- at the place n or a later one, and there with a handle as large
-pub placed_not_after : (n m o u : ℕ) → n ≤ m → (n ≡ m → o ≤ u) → NotAfter (breach_at n o) (breach_at m u)
-placed_not_after n m o u l rest =
-    let pairs = levels_in_turn most_channels n m (omega arith) l in
-    in_turn (levels_in_turn levels (n / most_channels) (m / most_channels) (omega arith) pairs) λ higher.
-    in_turn (channels_in_turn levels (n / most_channels) (m / most_channels) pairs higher) λ lower.
-    let pair = same_place levels (n / most_channels) (m / most_channels) higher lower in
-    in_turn (channels_in_turn most_channels n m l pair) λ channel. rest (same_place most_channels n m pair channel)
+    go (no x) = let e : m ≡ n = omega arith in inr (e, rest (subst⁻¹ P e p))

@@ -2,24 +2,13 @@
 -- in one way only. Assumes nothing.
 use Prim.Native.Nat.{ℕ}
 use mathlib.Core.Path.{◌≡◌, refl, sym, ap, subst}
-use mathlib.Core.List.{[]}
-use native.Mathlib.Omega.{arith}
 use Rattle.solving.specs.Solutions.{Sets}
 use Rattle.judging.specs.declared.Breach.{Breach}
 use Rattle.judging.specs.declared.Verdict.{Verdict}
 use Rattle.judging.specs.declared.Verdict.TheVariants.{Unjudged, Yes, No}
 use Rattle.judging.specs.Verdict.{Discreet, IsBreach, FirstBreach}
-use Rattle.judging.specs.Judge.{yes_bytes, no_bytes, verdict_bytes, VerdictOn}
+use Rattle.judging.specs.Judge.{no_bytes, verdict_bytes, VerdictOn}
 use Rattle.judging.proofs.Order.{same_breach, first_once}
-
-yes_not_no : (b : Breach) → yes_bytes ≡ no_bytes b → ⊥
-yes_not_no b e = let z : ◌≡◌ {A = ℕ} 0 1 = cc in omega arith
-
-none_not_yes : [] ≡ yes_bytes → ⊥
-none_not_yes e = let z : ◌≡◌ {A = ℕ} 0 1 = cc in omega arith
-
-none_not_no : (b : Breach) → [] ≡ no_bytes b → ⊥
-none_not_no b e = let z : ◌≡◌ {A = ℕ} 0 1 = cc in omega arith
 
 no_bytes_once : (b d : Breach) → no_bytes b ≡ no_bytes d → b ≡ d
 no_bytes_once b d e = same_breach (cc) (cc) (cc) (cc)
@@ -27,13 +16,13 @@ no_bytes_once b d e = same_breach (cc) (cc) (cc) (cc)
 -- a verdict is known by its bytes
 pub verdict_once : (v w : Verdict) → verdict_bytes v ≡ verdict_bytes w → v ≡ w
 verdict_once Unjudged Unjudged e = refl
-verdict_once Unjudged Yes e = absurd (none_not_yes e)
-verdict_once Unjudged (No d) e = absurd (none_not_no d e)
-verdict_once Yes Unjudged e = absurd (none_not_yes (sym e))
+verdict_once Unjudged Yes e = cc
+verdict_once Unjudged (No d) e = cc
+verdict_once Yes Unjudged e = cc
 verdict_once Yes Yes e = refl
-verdict_once Yes (No d) e = absurd (yes_not_no d e)
-verdict_once (No b) Unjudged e = absurd (none_not_no b (sym e))
-verdict_once (No b) Yes e = absurd (yes_not_no b (sym e))
+verdict_once Yes (No d) e = cc
+verdict_once (No b) Unjudged e = cc
+verdict_once (No b) Yes e = cc
 verdict_once (No b) (No d) e = ap No (no_bytes_once b d e)
 
 module _ {lower : ℕ → ℕ → Type 0} {s : Sets} where
@@ -42,15 +31,15 @@ module _ {lower : ℕ → ℕ → Type 0} {s : Sets} where
 
   pub discreet_yes : Discreet lower s → VerdictOn lower s Yes
   discreet_yes d = record {
-    given = λ e. none_not_yes (sym e);
+    given = λ e. cc;
     clear = (λ e. d, λ w. refl);
-    breach = λ b. (λ e. absurd (yes_not_no b e), λ f. absurd (breach_not_discreet b f.breach d));
+    breach = λ b. (λ e. cc, λ f. absurd (breach_not_discreet b f.breach d));
   }
 
   pub breach_no : (b : Breach) → FirstBreach lower s b → VerdictOn lower s (No b)
   breach_no b f = record {
-    given = λ e. none_not_no b (sym e);
-    clear = (λ e. absurd (yes_not_no b (sym e)), λ d. absurd (breach_not_discreet b f.breach d));
+    given = λ e. cc;
+    clear = (λ e. cc, λ d. absurd (breach_not_discreet b f.breach d));
     breach = λ d. (λ e. subst (FirstBreach lower s) (no_bytes_once b d e) f, λ g. ap no_bytes (first_once f g));
   }
 

@@ -2,11 +2,11 @@
 // beside judging: nothing here asks who ranks above whom.
 #![tactic(auto)]
 
-ghost use Rattle.std.specs.Prelude.{◌≡◌, ◌<◌, length};
-ghost use Rattle.limits.specs.Limits.{most_channels, levels, level_sets};
+ghost use Rattle.std.specs.Prelude.{◌≡◌, ◌<◌};
+ghost use Rattle.limits.specs.Limits.{most_channels, levels};
 ghost use Rattle.reading.specs.Plan.{plan_in};
 ghost use Rattle.reaching.specs.Reach.{Reaches};
-ghost use Rattle.reaching.specs.inner.Working.{HandlesIn, FirstOn, ChannelsIn};
+ghost use Rattle.reaching.specs.inner.Working.{HandlesIn, first_on, ChannelsIn};
 
 use limits::{CHANNEL_SETS, LEVEL_SETS};
 use reading::Refusal;
@@ -17,6 +17,7 @@ pub const LEVELS: usize = limits::LEVELS as usize;
 
 // What each level may receive: a set of handles for each level, # the last, and for each level and handle the smallest channel on which the level
 // may receive it, 0 where it may not. A refused text has nothing received.
+// 0 and no Option: the contract of `reach` names it (`none` of `ReachOf`), and the handle's set tells it from channel 0.
 #[derive(Clone, Copy)]
 pub struct Received {
     pub refusal: Refusal,
@@ -25,47 +26,35 @@ pub struct Received {
 }
 
 // The handles that each level may receive on any channel, by the in sets.
-fn handles_in(ins: &[Set]) -> [Set; LEVELS]
-    requires { length ins.now ≡ level_sets }
-    ensures { HandlesIn ins.now levels result }
+fn handles_in(ins: &[Set; LEVEL_SETS]) -> [Set; LEVELS]
+    ensures { HandlesIn ins.now result }
 {
-    let none = sets::empty();
-    let every = sets::every();
-    let mut handles = [none; LEVELS];
-    let mut level = 0;
-    while level < LEVELS {
-        handles[level] = sets::rows::together(ins, level * CHANNEL_SETS, every);
-        level += 1;
+    let mut handles = [sets::empty(); LEVELS];
+    for (level, received) in handles.iter_mut().enumerate() {
+        *received = sets::rows::together(ins, level * CHANNEL_SETS, sets::every());
     }
     handles
 }
 
-// The smallest channel on which a level may receive a handle, 0 where it may on none.
-fn first_channel(ins: &[Set], level: usize, handle: usize) -> u8
-    requires { (length ins.now ≡ level_sets) × (level < levels) × (handle < most_channels) }
-    ensures { FirstOn ins.now level handle result }
+// The smallest channel on which a level may receive a handle, if there is one.
+fn first_channel(ins: &[Set; LEVEL_SETS], level: usize, handle: usize) -> Option<usize>
+    requires { (level < levels) × (handle < most_channels) }
+    ensures { result ≡ first_on ins.now level handle }
 {
-    let mut channel = 0;
-    while channel < CHANNEL_SETS {
-        let set = sets::rows::at(ins, level * CHANNEL_SETS + channel);
-        if sets::has(set, handle as u32) {
-            return channel as u8;
-        }
-        channel += 1;
-    }
-    0
+    let start = level * CHANNEL_SETS;
+    ins[start..start + CHANNEL_SETS]
+        .iter()
+        .position(|received| sets::has(*received, handle as u32))
 }
 
-// That channel for each level and handle, those of a level side by side.
-fn channels_in(ins: &[Set]) -> [u8; LEVEL_SETS]
-    requires { length ins.now ≡ level_sets }
-    ensures { ChannelsIn ins.now level_sets result }
+// That channel for each level and handle, those of a level side by side, 0 where there is none.
+fn channels_in(ins: &[Set; LEVEL_SETS]) -> [u8; LEVEL_SETS]
+    ensures { ChannelsIn ins.now result }
 {
-    let mut channels = [0u8; LEVEL_SETS];
-    let mut place = 0;
-    while place < LEVEL_SETS {
-        channels[place] = first_channel(ins, place / CHANNEL_SETS, place % CHANNEL_SETS);
-        place += 1;
+    let mut channels = [0; LEVEL_SETS];
+    for (place, channel) in channels.iter_mut().enumerate() {
+        let first = first_channel(ins, place / CHANNEL_SETS, place % CHANNEL_SETS);
+        *channel = first.unwrap_or(0) as u8;
     }
     channels
 }
@@ -75,14 +64,10 @@ pub fn reach(text: &[u8], allowance: u16) -> Received
     ensures { Reaches (plan_in text.now) allowance result }
 {
     let solved = solving::solve(text, allowance);
-    let refusal = solved.refusal;
-    let solution = solved.solution;
-    let ins = solution.ins;
-    let handles = handles_in(&ins);
-    let channels = channels_in(&ins);
+    let ins = &solved.solution.ins;
     Received {
-        refusal,
-        handles,
-        channels,
+        refusal: solved.refusal,
+        handles: handles_in(ins),
+        channels: channels_in(ins),
     }
 }

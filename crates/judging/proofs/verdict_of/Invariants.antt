@@ -1,13 +1,13 @@
--- The loop's invariant: nothing goes down at the places passed. At the first place where something does, its least handle makes the first
--- breach; where all places are passed the sets are discreet. The measure is the places left. Assumes nothing.
-use Prim.Native.Nat.{ℕ, ◌-◌, ◌≤◌, ◌<◌}
+-- The loops' invariants: nothing goes down at the levels and channels passed. Assumes nothing.
 use Rattle.judging.specs.Verdict.{Lower}
-use Rattle.judging.specs.inner.Compute.{places}
-use Rattle.judging.proofs.Places.{Quiet}
+use Rattle.judging.proofs.Turns.{QuietFrom, QuietTo, QuietOn}
 use Rattle.judging.proofs.verdict_of.Given as goal
 
-abbrev pub invariant-loop-place : goal.invariant-loop-place
-invariant-loop-place l = (l.place ≤ places) × ((j : ℕ) → j < l.place → Quiet (Lower l.top) l.outs l.ins j)
+abbrev pub invariant-loop-channel : goal.invariant-loop-channel
+invariant-loop-channel l = QuietOn (Lower l.top) l.solution l.high l.low l.channel
 
-abbrev pub decreases-loop-place : goal.decreases-loop-place
-decreases-loop-place l = places - l.place
+abbrev pub invariant-loop-low : goal.invariant-loop-low
+invariant-loop-low l = QuietTo (Lower l.top) l.solution l.high l.low
+
+abbrev pub invariant-loop-high : goal.invariant-loop-high
+invariant-loop-high l = QuietFrom (Lower l.top) l.solution l.high
