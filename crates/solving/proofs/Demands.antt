@@ -5,8 +5,9 @@ use mathlib.Core.Path.{◌≡◌, ap}
 use mathlib.Core.List.{List}
 use mathlib.Core.Logic.{◌≢◌}
 use native.Mathlib.Omega.{arith}
+use Rattle.std.specs.Prelude.{Ok, Err}
 use Rattle.reading.specs.declared.Refusal.{Refusal}
-use Rattle.reading.specs.Plan.{Outcome, refused, read, Plan, plan_in}
+use Rattle.reading.specs.Plan.{Outcome, Plan, plan_in}
 use Rattle.reading.specs.Promise.{Kept}
 use Rattle.reading.proofs.Promise.{kept}
 use Rattle.solving.specs.declared.Solved.{Solved}
@@ -35,5 +36,5 @@ never_14 text allowance r enough = go (plan_in text) (kept text)
     number e = ap (λ (f : Refusal). f.number) e
 
     go : (o : Outcome Plan) → Kept o → Solves o allowance r → r.refusal.number ≢ 14
-    go (refused f) k s n = let e = ap (λ (q : Solved). q.refusal.number) s in let l = k.0.2 in omega arith
-    go (read plan) k s n = let e = number (answered_at_ceiling plan allowance r k enough s).refusal in omega arith
+    go (Err f) k s n = let e = ap (λ (q : Solved). q.refusal.number) s in let l = k.0.2 in omega arith
+    go (Ok plan) k s n = let e = number (answered_at_ceiling plan allowance r k enough s).refusal in omega arith

@@ -6,11 +6,12 @@ use mathlib.Core.List.{List, []}
 use mathlib.Core.Logic.Iff
 use mathlib.Core.Logic.{◌↔◌, inl, inr}
 use native.Mathlib.Omega.{arith}
+use Rattle.std.specs.Prelude.{Ok, Err}
 use Rattle.sets.proofs.Listed.{Mem}
 use Rattle.lines.specs.declared.Head.{Head}
 use Rattle.lines.specs.Promise.{HeadWithin}
 use Rattle.reading.specs.Promise.{PlanWithin, Kept}
-use Rattle.reading.specs.Plan.{Outcome, refused, read, Plan}
+use Rattle.reading.specs.Plan.{Outcome, Plan}
 use Rattle.solving.specs.declared.Solution.{Solution}
 use Rattle.solving.specs.declared.Solved.{Solved}
 use Rattle.solving.specs.Solutions.{Fact, binder_set, in_set, out_set, members_in, Sized, InRange}
@@ -40,11 +41,11 @@ answered_once p allowance r q a b = λ i. record {
 }
 
 pub solves_once : (o : Outcome Plan) (allowance : ℕ) (r q : Solved) → Solves o allowance r → Solves o allowance q → r ≡ q
-solves_once (refused f) allowance r q a b = a ∙ sym b
-solves_once (read plan) allowance r q (inl a) (inl b) = answered_once plan allowance r q a b
-solves_once (read plan) allowance r q (inl a) (inr b) = let z = b.exceeds r.count a.count in let w = a.allowed in absurd (omega arith)
-solves_once (read plan) allowance r q (inr a) (inl b) = let z = a.exceeds q.count b.count in let w = b.allowed in absurd (omega arith)
-solves_once (read plan) allowance r q (inr a) (inr b) = a.is ∙ sym b.is
+solves_once (Err f) allowance r q a b = a ∙ sym b
+solves_once (Ok plan) allowance r q (inl a) (inl b) = answered_once plan allowance r q a b
+solves_once (Ok plan) allowance r q (inl a) (inr b) = let z = b.exceeds r.count a.count in let w = a.allowed in absurd (omega arith)
+solves_once (Ok plan) allowance r q (inr a) (inl b) = let z = a.exceeds q.count b.count in let w = b.allowed in absurd (omega arith)
+solves_once (Ok plan) allowance r q (inr a) (inr b) = a.is ∙ sym b.is
 
 -- ---- the computed answer is the one
 
@@ -85,10 +86,10 @@ module _ (plan : Plan) (g : PlanWithin plan) (n : ℕ) (s : List Fact) (c : Coun
   }
 
 pub outcome_computed : (o : Outcome Plan) (allowance : ℕ) → Kept o → Solves o allowance (solved_of o allowance)
-outcome_computed (refused f) allowance g = refl
-outcome_computed (read plan) allowance g = go (run plan allowance 0 []) (whole_run plan allowance)
+outcome_computed (Err f) allowance g = refl
+outcome_computed (Ok plan) allowance g = go (run plan allowance 0 []) (whole_run plan allowance)
   where
-    go : (r : Run) → RunIs plan allowance r → Solves (read plan) allowance (solved_by plan.head r)
+    go : (r : Run) → RunIs plan allowance r → Solves (Ok plan) allowance (solved_by plan.head r)
     go unfinished w = inr (record { exceeds = busy_exceeds plan allowance w; is = refl })
     go (settled n s) w = inl (computed_answer plan g n s w.0 w.2 allowance w.1)
 
@@ -98,7 +99,7 @@ solves_computed o allowance r g s = solves_once o allowance r (solved_of o allow
 -- ---- demand 2
 
 -- with 17,409 rounds no plan is refused 14
-pub answered_at_ceiling : (plan : Plan) (allowance : ℕ) (r : Solved) → PlanWithin plan → round_ceiling ≤ allowance → Solves (read plan) allowance r
+pub answered_at_ceiling : (plan : Plan) (allowance : ℕ) (r : Solved) → PlanWithin plan → round_ceiling ≤ allowance → Solves (Ok plan) allowance r
     → Answered plan allowance r
 answered_at_ceiling plan allowance r g l (inl a) = a
 answered_at_ceiling plan allowance r g l (inr o) =
@@ -108,7 +109,7 @@ answered_at_ceiling plan allowance r g l (inr o) =
     let z = o.exceeds c.0 c.1 in
     absurd (omega arith)
 
-plan_demand : (plan : Plan) (allowance : ℕ) (r : Solved) → PlanWithin plan → r ≡ solved_of (read plan) allowance → PlanDemand plan allowance r
+plan_demand : (plan : Plan) (allowance : ℕ) (r : Solved) → PlanWithin plan → r ≡ solved_of (Ok plan) allowance → PlanDemand plan allowance r
 plan_demand plan allowance r g e =
     let c = count_exists plan g in
     let b = count_bound plan g c.0 c.1 in

@@ -14,7 +14,7 @@ use Rattle.sets.specs.Set.{Has}
 use Rattle.sets.specs.Rows.{SetRow, empty_row, set_at, HasAt, Copied}
 use Rattle.sets.proofs.Members.{same_members}
 use Rattle.sets.proofs.SameRows.{none_at, same_row}
-use Rattle.reading.specs.declared.Slot.{Slot}
+use Rattle.lines.specs.declared.Node.{Node}
 use Rattle.reading.specs.Promise.{EachWithin, PlanWithin}
 use Rattle.reading.specs.Plan.{Plan, no_refusal}
 use Rattle.solving.specs.declared.Solved.{Solved}
@@ -31,7 +31,7 @@ use Rattle.solving.proofs.Walks.{alone}
 
 -- ---- the round's walk may begin
 
-pub round_ready : (ns : List Slot) (old new : SetRow) → length old ≡ table_size → length new ≡ table_size → IsPlan ns
+pub round_ready : (ns : List Node) (old new : SetRow) → length old ≡ table_size → length new ≡ table_size → IsPlan ns
     → Ready most_depth ns 0 outermost 1 old new
 round_ready ns old new zo zn w =
     let p = w.1 in

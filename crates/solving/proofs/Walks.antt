@@ -10,7 +10,6 @@ use lib.Dec.{T}
 use lib.ListN.{length, length-append}
 use Rattle.lines.specs.declared.Head.{Head}
 use Rattle.lines.specs.declared.Node.{Node}
-use Rattle.reading.specs.declared.Slot.{Slot}
 use Rattle.lines.specs.Promise.{NodeWithin}
 use Rattle.reading.specs.Promise.{EachWithin}
 use Rattle.reading.specs.Tree.{branch_count, Tree, listing}
@@ -25,7 +24,7 @@ use Rattle.solving.proofs.Trees.{node_of, branches_of, tree_branches, tree_listi
 
 -- ---- nodes that stand in a row
 
-pub stands_split : (ns : List Slot) (i : ℕ) (xs ys : List Node) → Stands ns i (xs ++ ys) → Stands ns i xs × Stands ns (i + length xs) ys
+pub stands_split : (ns : List Node) (i : ℕ) (xs ys : List Node) → Stands ns i (xs ++ ys) → Stands ns i xs × Stands ns (i + length xs) ys
 stands_split ns i [] ys h = (tt, subst (λ k. Stands ns k ys) (let e : i ≡ i + 0 = omega arith in e) h)
 stands_split ns i (x ∷ xs) ys h =
     let w = stands_split ns (i + 1) xs ys h.2 in
@@ -37,18 +36,18 @@ alone p = append-nil (listing p)
 
 -- ---- a tree's root and branches stand where the tree stands
 
-pub record Rooted (h : Head) (d : ℕ) (ns : List Slot) (at : ℕ) (p : Tree) : Type 0 where
+pub record Rooted (h : Head) (d : ℕ) (ns : List Node) (at : ℕ) (p : Tree) : Type 0 where
   pub here : at < length ns
   pub node : node_at ns at ≡ node_of p
   pub deeper : d ≢ 0
   pub within : NodeWithin h (node_of p)
   pub branches : Planted h (d - 1) ns (at + 1) (branches_of p)
 
-root_stands : (ns : List Slot) (at : ℕ) (p : Tree) → Stands ns at (listings (p ∷ []))
+root_stands : (ns : List Node) (at : ℕ) (p : Tree) → Stands ns at (listings (p ∷ []))
     → (at < length ns) × (node_at ns at ≡ node_of p) × Stands ns (at + 1) (listings (branches_of p))
 root_stands ns at p h = subst (Stands ns at) (alone p ∙ tree_listing p) h
 
-pub rooted : (h : Head) (d : ℕ) (ns : List Slot) (at : ℕ) (p : Tree) → Planted h d ns at (p ∷ []) → Rooted h d ns at p
+pub rooted : (h : Head) (d : ℕ) (ns : List Node) (at : ℕ) (p : Tree) → Planted h d ns at (p ∷ []) → Rooted h d ns at p
 rooted h d ns at p w =
     let s = root_stands ns at p w.stands in
     let v : EachWithin h (node_of p ∷ listings (branches_of p)) = subst (EachWithin h) (alone p ∙ tree_listing p) w.within in
@@ -72,19 +71,19 @@ the_tree [] e = absurd (omega arith)
 the_tree (p ∷ []) e = (p, refl)
 the_tree (p ∷ q ∷ ps) e = absurd (omega arith)
 
-pub ready_root : (d : ℕ) (ns : List Slot) (at l : ℕ) (old new : List ℕ) (r : Ready d ns at l 1 old new) → (p : Tree) × Rooted r.head d ns at p
+pub ready_root : (d : ℕ) (ns : List Node) (at l : ℕ) (old new : List ℕ) (r : Ready d ns at l 1 old new) → (p : Tree) × Rooted r.head d ns at p
 ready_root d ns at l old new r =
     let t = the_tree r.trees r.many in
     (t.0, rooted r.head d ns at t.0 (subst (Planted r.head d ns at) t.1 r.planted))
 
 -- ---- what is asked of the calls
 
-pub clause_able : (d : ℕ) (ns : List Slot) (at l : ℕ) (old new : List ℕ) → Ready d ns at l 1 old new → Able (node_at ns at) l old new
+pub clause_able : (d : ℕ) (ns : List Node) (at l : ℕ) (old new : List ℕ) → Ready d ns at l 1 old new → Able (node_at ns at) l old new
 clause_able d ns at l old new r =
     let w = ready_root d ns at l old new r in
     record { head = r.head; lent = r.lent; within = subst⁻¹ (NodeWithin r.head) w.1.node w.1.within }
 
-pub branches_ready : (d : ℕ) (ns : List Slot) (at l : ℕ) (live : Bool) (old new : List ℕ) (s : Step) (then : List ℕ) → Ready d ns at l 1 old new
+pub branches_ready : (d : ℕ) (ns : List Node) (at l : ℕ) (live : Bool) (old new : List ℕ) (s : Step) (then : List ℕ) → Ready d ns at l 1 old new
     → Stepped (node_at ns at) l live old new s then → Ready (d - 1) ns (at + 1) s.level s.branches old then
 branches_ready d ns at l live old new s then r st =
     let w = ready_root d ns at l old new r in
@@ -109,7 +108,7 @@ branches_ready d ns at l live old new s then r st =
     }
 
 -- the first of some trees, and the others
-pub first_ready : (d : ℕ) (ns : List Slot) (at l b : ℕ) (old new : List ℕ) → b ≢ 0 → Ready d ns at l b old new → Ready d ns at l 1 old new
+pub first_ready : (d : ℕ) (ns : List Node) (at l b : ℕ) (old new : List ℕ) → b ≢ 0 → Ready d ns at l b old new → Ready d ns at l 1 old new
 first_ready d ns at l b old new b0 r = go r.trees r.many r.planted
   where
     go : (ps : List Tree) → length ps ≡ b → Planted r.head d ns at ps → Ready d ns at l 1 old new
@@ -127,7 +126,7 @@ first_ready d ns at l b old new b0 r = go r.trees r.many r.planted
       };
     }
 
-others_ready : (d : ℕ) (ns : List Slot) (at l b : ℕ) (live : Bool) (old new : List ℕ) (next : ℕ) (then : List ℕ) → b ≢ 0
+others_ready : (d : ℕ) (ns : List Node) (at l b : ℕ) (live : Bool) (old new : List ℕ) (next : ℕ) (then : List ℕ) → b ≢ 0
     → Ready d ns at l b old new → Walked ns at l 1 live old new next then → Ready d ns next l (b - 1) old then
 others_ready d ns at l b live old new next then b0 r v = go r.trees r.many r.planted
   where
@@ -151,7 +150,7 @@ others_ready d ns at l b live old new next then b0 r v = go r.trees r.many r.pla
         }
 
 -- the second of two
-pub second_ready : (d : ℕ) (ns : List Slot) (at l b : ℕ) (live : Bool) (old new : List ℕ) (next : ℕ) (then : List ℕ) → b ≡ 2
+pub second_ready : (d : ℕ) (ns : List Node) (at l b : ℕ) (live : Bool) (old new : List ℕ) (next : ℕ) (then : List ℕ) → b ≡ 2
     → Ready d ns at l b old new → Walked ns at l 1 live old new next then → Ready d ns next l 1 old then
 second_ready d ns at l b live old new next then e r v =
     let other : b - 1 ≡ 1 = omega arith in
@@ -159,7 +158,7 @@ second_ready d ns at l b live old new next then e r v =
 
 -- ---- what is promised
 
-pub walked_none : (ns : List Slot) (at l b : ℕ) (live : Bool) (old new : List ℕ) → b ≡ 0 → length new ≡ table_size → Walked ns at l b live old new at new
+pub walked_none : (ns : List Node) (at l b : ℕ) (live : Bool) (old new : List ℕ) → b ≡ 0 → length new ≡ table_size → Walked ns at l b live old new at new
 walked_none ns at l b live old new b0 z = record { next = next; adds = adds; sized = z }
   where
     next : (ps : List Tree) → length ps ≡ b → Stands ns at (listings ps) → at ≡ at + length (listings ps)
@@ -170,7 +169,7 @@ walked_none ns at l b live old new b0 z = record { next = next; adds = adds; siz
     adds [] e h = adds_none new (λ f w. w.1)
     adds (p ∷ ps) e h = absurd (omega arith)
 
-walked_more : (ns : List Slot) (at l b : ℕ) (live : Bool) (old new : List ℕ) (m : ℕ) (mid : List ℕ) (r : ℕ) (then : List ℕ) → b ≢ 0
+walked_more : (ns : List Node) (at l b : ℕ) (live : Bool) (old new : List ℕ) (m : ℕ) (mid : List ℕ) (r : ℕ) (then : List ℕ) → b ≢ 0
     → Walked ns at l 1 live old new m mid → Walked ns m l (b - 1) live old mid r then → Walked ns at l b live old new r then
 walked_more ns at l b live old new m mid r then b0 first others = record { next = next; adds = adds; sized = others.sized }
   where
@@ -200,18 +199,18 @@ walked_more ns at l b live old new m mid r then b0 first others = record { next 
         ))
 
 -- one branch, and two
-pub walked_one : (ns : List Slot) (at l b : ℕ) (live : Bool) (old new : List ℕ) (r : ℕ) (then : List ℕ) → b ≡ 1
+pub walked_one : (ns : List Node) (at l b : ℕ) (live : Bool) (old new : List ℕ) (r : ℕ) (then : List ℕ) → b ≡ 1
     → Walked ns at l 1 live old new r then → Walked ns at l b live old new r then
 walked_one ns at l b live old new r then e w = subst⁻¹ (λ k. Walked ns at l k live old new r then) e w
 
-pub walked_two : (ns : List Slot) (at l b : ℕ) (live : Bool) (old new : List ℕ) (m : ℕ) (mid : List ℕ) (r : ℕ) (then : List ℕ) → b ≡ 2
+pub walked_two : (ns : List Node) (at l b : ℕ) (live : Bool) (old new : List ℕ) (m : ℕ) (mid : List ℕ) (r : ℕ) (then : List ℕ) → b ≡ 2
     → Walked ns at l 1 live old new m mid → Walked ns m l 1 live old mid r then → Walked ns at l b live old new r then
 walked_two ns at l b live old new m mid r then e first second =
     let other : b - 1 ≡ 1 = omega arith in
     let rest = subst⁻¹ (λ k. Walked ns m l k live old mid r then) other second in
     walked_more ns at l b live old new m mid r then (λ z. omega arith) first rest
 
-pub walked_node : (ns : List Slot) (at l : ℕ) (live : Bool) (old new : List ℕ) (s : Step) (mid : List ℕ) (r : ℕ) (then : List ℕ)
+pub walked_node : (ns : List Node) (at l : ℕ) (live : Bool) (old new : List ℕ) (s : Step) (mid : List ℕ) (r : ℕ) (then : List ℕ)
     → Stepped (node_at ns at) l live old new s mid → Walked ns (at + 1) s.level s.branches s.live old mid r then
     → Walked ns at l 1 live old new r then
 walked_node ns at l live old new s mid r then st br = record { next = next; adds = adds; sized = br.sized }
@@ -253,7 +252,7 @@ walked_node ns at l live old new s mid r then st br = record { next = next; adds
             )
 
 -- a walk of the whole tree from the root
-pub whole_walked : (ns : List Slot) (l : ℕ) (old new : List ℕ) (r : ℕ) (then : List ℕ) (live : Bool) → T live → Walked ns 0 l 1 live old new r then
+pub whole_walked : (ns : List Node) (l : ℕ) (old new : List ℕ) (r : ℕ) (then : List ℕ) (live : Bool) → T live → Walked ns 0 l 1 live old new r then
     → (p : Tree) → Stands ns 0 (listing p) → Adds new then (Wants p l (in_table old))
 whole_walked ns l old new r then live t w p h = adds_same
     (w.adds (p ∷ []) refl (subst⁻¹ (Stands ns 0) (alone p) h)) (λ f. ((λ x. (t, inl x)), λ x. ⊎_elim (λ y. y) absurd x.1))

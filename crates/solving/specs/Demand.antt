@@ -1,9 +1,9 @@
 -- Demand 2 as one statement: every text is refused as reading refuses it, or is a plan that has a count, and the least acceptable
 -- solution and the count are answered exactly where the allowance is large enough.
 -- Assumes nothing.
-use Rattle.std.specs.Prelude.{ℕ, ◌<◌, ◌≤◌, ◌≡◌}
+use Rattle.std.specs.Prelude.{ℕ, ◌<◌, ◌≤◌, ◌≡◌, Ok, Err}
 use Rattle.reading.specs.declared.Refusal.{Refusal}
-use Rattle.reading.specs.Plan.{Outcome, refused, read, Plan, no_refusal}
+use Rattle.reading.specs.Plan.{Outcome, Plan, no_refusal}
 use Rattle.solving.specs.declared.Solved.{Solved}
 use Rattle.solving.specs.Solutions.{members_in, LiesWithin}
 use Rattle.solving.specs.Rounds.{Count, most_rounds, round_ceiling}
@@ -29,5 +29,5 @@ pub record PlanDemand (plan : Plan) (allowance : ℕ) (r : Solved) : Type 1 wher
 
 -- what a text reads as
 pub record Demand2 (outcome : Outcome Plan) (allowance : ℕ) (r : Solved) : Type 1 where
-  pub refusals : (f : Refusal) → outcome ≡ refused f → r ≡ refused_by f
-  pub plans : (plan : Plan) → outcome ≡ read plan → PlanDemand plan allowance r
+  pub refusals : (f : Refusal) → outcome ≡ Err f → r ≡ refused_by f
+  pub plans : (plan : Plan) → outcome ≡ Ok plan → PlanDemand plan allowance r

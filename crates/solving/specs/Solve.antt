@@ -1,10 +1,10 @@
 -- What solving a text within an allowance of rounds answers.
 -- Assumes nothing.
-use Rattle.std.specs.Prelude.{ℕ, ◌≤◌, ◌≡◌, ◌⊎◌}
+use Rattle.std.specs.Prelude.{ℕ, ◌≤◌, ◌≡◌, ◌⊎◌, Ok, Err}
 use Rattle.limits.specs.Limits.{most_binders, level_sets}
 use Rattle.sets.specs.Rows.{empty_row}
 use Rattle.reading.specs.declared.Refusal.{Refusal}
-use Rattle.reading.specs.Plan.{Outcome, refused, read, Plan, no_head, no_refusal}
+use Rattle.reading.specs.Plan.{Outcome, Plan, no_head, no_refusal}
 use Rattle.solving.specs.declared.Solution.{Solution}
 use Rattle.solving.specs.declared.Solved.{Solved}
 use Rattle.solving.specs.Solutions.{members_in, LiesWithin, Sized}
@@ -39,5 +39,5 @@ pub record RoundsSpent (plan : Plan) (allowance : ℕ) (r : Solved) : Type 0 whe
 
 -- what is answered, by what the text reads as
 abbrev pub Solves : Outcome Plan → ℕ → Solved → Type 0
-Solves (refused f) allowance r = r ≡ refused_by f
-Solves (read plan) allowance r = Answered plan allowance r ⊎ RoundsSpent plan allowance r
+Solves (Err f) allowance r = r ≡ refused_by f
+Solves (Ok plan) allowance r = Answered plan allowance r ⊎ RoundsSpent plan allowance r

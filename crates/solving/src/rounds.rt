@@ -7,12 +7,12 @@ use crate::table::{Table, empty, outs_at, solution_of};
 use crate::walk::walk_node;
 use crate::{Solution, Solved};
 use limits::{BINDER_SETS, CHANNEL_SETS, LEVEL_SETS, MOST_DEPTH, MOST_NODES, OUTERMOST};
-use lines::Head;
-use reading::{Refusal, Slot};
+use lines::{Head, Node};
+use reading::Refusal;
 use sets::Set;
 
 // The table after one round more: everything that the walk from the root wants is added, and the offers too; every set is read as it was.
-fn round(nodes: [Slot; MOST_NODES], offers: [Set; CHANNEL_SETS], table: Table) -> Table
+fn round(nodes: [Node; MOST_NODES], offers: [Set; CHANNEL_SETS], table: Table) -> Table
     requires { IsPlan nodes }
     ensures { Rounded nodes offers table result }
 {
@@ -50,7 +50,7 @@ pub(crate) fn refused(refusal: Refusal) -> Solved
 // where the allowance is too small.
 pub(crate) fn settle(
     head: Head,
-    nodes: [Slot; MOST_NODES],
+    nodes: [Node; MOST_NODES],
     offers: [Set; CHANNEL_SETS],
     allowance: u16,
 ) -> Solved

@@ -4,13 +4,13 @@ ghost use Rattle.solving.specs.inner.Walk.{Ready, Walked};
 use crate::clauses::clause;
 use crate::table::Table;
 use limits::MOST_NODES;
-use reading::Slot;
+use lines::Node;
 
 // Walks the tree whose root stands at `at`, adds what it wants, and says where it ends.
 #[cycle(walk)]
 pub(crate) fn walk_node(
     depth: usize,
-    nodes: [Slot; MOST_NODES],
+    nodes: [Node; MOST_NODES],
     at: usize,
     level: u8,
     live: bool,
@@ -20,9 +20,7 @@ pub(crate) fn walk_node(
     requires { Ready depth nodes at level 1 old.now new.old }
     ensures { Walked nodes at level 1 live old.now new.old result new.new }
 {
-    let slot = nodes[at];
-    let node = slot.node;
-    let step = clause(node, level, live, old, new);
+    let step = clause(nodes[at], level, live, old, new);
     walk_branches(
         depth - 1,
         nodes,
@@ -39,7 +37,7 @@ pub(crate) fn walk_node(
 #[cycle(walk)]
 fn walk_branches(
     depth: usize,
-    nodes: [Slot; MOST_NODES],
+    nodes: [Node; MOST_NODES],
     at: usize,
     level: u8,
     live: bool,

@@ -1,14 +1,14 @@
 -- Rounds that the checker computes with: a solution as the list of its memberships. That they are the rounds of Rounds.antt, and
 -- `solved_of` what Solve.antt asks for, is proved in proofs/Computed.antt.
 -- Assumes nothing.
-use Rattle.std.specs.Prelude.{ℕ, zero, suc, Bool, true, false, ◌&&◌, List, [], ◌∷◌, ◌++◌, eqb}
+use Rattle.std.specs.Prelude.{ℕ, zero, suc, Bool, true, false, ◌&&◌, List, [], ◌∷◌, ◌++◌, Ok, Err, eqb}
 use Rattle.limits.specs.Limits.{outermost, place_of}
 use Rattle.sets.specs.inner.Compute.{with_member, list_of}
 use Rattle.lines.specs.declared.Head.{Head}
 use Rattle.lines.specs.declared.Marker.{Marker}
 use Rattle.lines.specs.declared.Marker.TheVariants.{Channel, Binder}
 use Rattle.lines.specs.declared.Offer.{Offer}
-use Rattle.reading.specs.Plan.{Outcome, refused, read, Plan, no_refusal}
+use Rattle.reading.specs.Plan.{Outcome, Plan, no_refusal}
 use Rattle.reading.specs.Tree.{Tree, nil, silent, send, receive, sum, parallel, restriction, match, replication, bracket}
 use Rattle.solving.specs.declared.Solution.{Solution}
 use Rattle.solving.specs.declared.Solved.{Solved}
@@ -156,5 +156,5 @@ solved_by h (settled n s) = record { refusal = no_refusal; head = h; count = n; 
 
 -- what solving answers, by what the text reads as
 abbrev pub solved_of : Outcome Plan → ℕ → Solved
-solved_of (refused f) allowance = refused_by f
-solved_of (read plan) allowance = solved_by plan.head (run plan allowance 0 [])
+solved_of (Err f) allowance = refused_by f
+solved_of (Ok plan) allowance = solved_by plan.head (run plan allowance 0 [])

@@ -5,7 +5,6 @@ use Rattle.std.specs.Prelude.{ℕ, ◌+◌, ◌<◌, ◌≤◌, Bool, ◌≡◌,
 use Rattle.lines.specs.declared.Head.{Head}
 use Rattle.lines.specs.declared.Node.{Node}
 use Rattle.lines.specs.declared.Node.TheVariants.{Nil, Silent, Send, Receive, Sum, Parallel, Restriction, Match, Replication, Bracket}
-use Rattle.reading.specs.declared.Slot.{Slot}
 use Rattle.sets.specs.Rows.{SetRow}
 use Rattle.lines.specs.Promise.{HeadWithin, NodeWithin}
 use Rattle.reading.specs.Plan.{Plan, offer_row}
@@ -86,11 +85,11 @@ pub record Stepped (n : Node) (level : ℕ) (live : Bool) (old new : List ℕ) (
 
 -- ---- trees in prefix order
 
-abbrev pub node_at : List Slot → ℕ → Node
-node_at ns i = (get_or ns i (record { node = Nil })).node
+abbrev pub node_at : List Node → ℕ → Node
+node_at ns i = get_or ns i Nil
 
 -- these nodes stand from i on
-abbrev pub Stands : List Slot → ℕ → List Node → Type 0
+abbrev pub Stands : List Node → ℕ → List Node → Type 0
 Stands ns i [] = Unit {0}
 Stands ns i (n ∷ xs) = (i < length ns) × (node_at ns i ≡ n) × Stands ns (i + 1) xs
 
@@ -110,13 +109,13 @@ SomeWants [] l s f = ⊥
 SomeWants (p ∷ ps) l s f = Wants p l s f ⊎ SomeWants ps l s f
 
 -- trees of a plan with this head stand from `at` on
-pub record Planted (h : Head) (depth : ℕ) (ns : List Slot) (at : ℕ) (ps : List Tree) : Type 0 where
+pub record Planted (h : Head) (depth : ℕ) (ns : List Node) (at : ℕ) (ps : List Tree) : Type 0 where
   pub stands : Stands ns at (listings ps)
   pub deep : EachDepth depth ps
   pub within : EachWithin h (listings ps)
 
 -- what the walk of `branches` trees needs, two at most
-pub record Ready (depth : ℕ) (ns : List Slot) (at level branches : ℕ) (old new : List ℕ) : Type 0 where
+pub record Ready (depth : ℕ) (ns : List Node) (at level branches : ℕ) (old new : List ℕ) : Type 0 where
   pub few : branches ≤ 2
   pub head : Head
   pub lent : Lent head level old new
@@ -125,7 +124,7 @@ pub record Ready (depth : ℕ) (ns : List Slot) (at level branches : ℕ) (old n
   pub planted : Planted head depth ns at trees
 
 -- the walk of the trees that stand at `at` ends behind them, and has added what they want
-pub record Walked (ns : List Slot) (at level branches : ℕ) (live : Bool) (old new : List ℕ) (r : ℕ) (then : List ℕ) : Type 0 where
+pub record Walked (ns : List Node) (at level branches : ℕ) (live : Bool) (old new : List ℕ) (r : ℕ) (then : List ℕ) : Type 0 where
   pub next : (ps : List Tree) → length ps ≡ branches → Stands ns at (listings ps) → r ≡ at + length (listings ps)
   pub adds : (ps : List Tree) → length ps ≡ branches → Stands ns at (listings ps)
       → Adds new then (λ f. T live × SomeWants ps level (in_table old) f)
@@ -134,24 +133,24 @@ pub record Walked (ns : List Slot) (at level branches : ℕ) (live : Bool) (old 
 -- ---- rounds
 
 -- the nodes and the row of offers are those of this plan
-pub record Spells (ns : List Slot) (row : SetRow) (p : Plan) : Type 0 where
+pub record Spells (ns : List Node) (row : SetRow) (p : Plan) : Type 0 where
   pub within : PlanWithin p
   pub stands : Stands ns 0 (listing p.tree)
   pub offers : row ≡ offer_row p.offers
 
 -- the head, the nodes and the row are some plan's
-abbrev pub Spelled : Head → List Slot → SetRow → Type 0
+abbrev pub Spelled : Head → List Node → SetRow → Type 0
 Spelled h ns row = (p : Plan) × (h ≡ p.head) × Spells ns row p
 
 -- the nodes are some plan's, whatever its head and its offers
-abbrev pub IsPlan : List Slot → Type 0
+abbrev pub IsPlan : List Node → Type 0
 IsPlan ns = (row : SetRow) × (p : Plan) × Spells ns row p
 
 -- what a round makes of old
-pub record Rounded (ns : List Slot) (row old r : SetRow) : Type 0 where
+pub record Rounded (ns : List Node) (row old r : SetRow) : Type 0 where
   pub adds : (p : Plan) → Spells ns row p → Adds old r (Wanted p (in_table old))
   pub sized : length r ≡ table_size
 
 -- what rounds within an allowance answer
-abbrev pub Settles : Head → List Slot → SetRow → ℕ → Solved → Type 0
+abbrev pub Settles : Head → List Node → SetRow → ℕ → Solved → Type 0
 Settles h ns row allowance r = (p : Plan) → h ≡ p.head → Spells ns row p → Answered p allowance r ⊎ RoundsSpent p allowance r
