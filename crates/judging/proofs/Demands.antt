@@ -5,7 +5,8 @@ use Prim.Native.Nat.{ℕ, ◌≤◌}
 use mathlib.Core.Path.{◌≡◌, sym, ap, subst, subst⁻¹, ◌∙◌}
 use mathlib.Core.List.{List}
 use native.Mathlib.Decide.{ℕ_discrete}
-use Rattle.reading.specs.Plan.{read, Plan, plan_in}
+use Rattle.std.specs.Prelude.{Ok}
+use Rattle.reading.specs.Plan.{Plan, plan_in}
 use Rattle.solving.specs.declared.Solved.{Solved}
 use Rattle.solving.specs.Solutions.{in_set, out_set, Sets, Contained, members_in}
 use Rattle.solving.specs.Rounds.{Count}
@@ -77,7 +78,7 @@ least_demand plan n s v a on = record {
 
 -- for every text that reads as a plan, and every allowance that its count is within
 pub demand_3 : (text : List ℕ) (allowance : ℕ) (r : Answer) → Judges (plan_in text) allowance r
-    → (plan : Plan) → plan_in text ≡ read plan → (n : ℕ) → Count plan n → n ≤ allowance → Demand3 plan r.verdict
+    → (plan : Plan) → plan_in text ≡ Ok plan → (n : ℕ) → Count plan n → n ≤ allowance → Demand3 plan r.verdict
 demand_3 text allowance r j plan e n counts enough =
     let demanded = (demand_2 text allowance r.solved j.solved).plans plan e in
     let within = subst (λ m. m ≤ allowance) (count_unique plan n demanded.count counts demanded.counts) enough in

@@ -8,6 +8,7 @@ use mathlib.Core.Logic.{◌⊎◌, inl, inr}
 use native.Mathlib.Omega.{arith}
 use lib.ListN.{get_or}
 use lib.Seq.{ext_get_or}
+use Rattle.std.specs.Prelude.{Ok}
 use Rattle.limits.specs.Limits.{most_channels, levels, level_sets}
 use Rattle.limits.proofs.Places.{level_of, channel_of, place_back}
 use Rattle.sets.specs.Set.{bit, Has}
@@ -15,7 +16,7 @@ use Rattle.sets.specs.Rows.{SetRow, set_at}
 use Rattle.sets.proofs.Bits.{has?, zero_not_has}
 use Rattle.sets.proofs.Members.{same_members}
 use Rattle.sets.proofs.SameRows.{same_row}
-use Rattle.reading.specs.Plan.{read, Plan, plan_in}
+use Rattle.reading.specs.Plan.{Plan, plan_in}
 use Rattle.reading.specs.Promise.{Kept}
 use Rattle.reading.proofs.Promise.{kept}
 use Rattle.solving.specs.declared.Solved.{Solved}
@@ -90,7 +91,7 @@ least_reach plan n s r few a x = record {
 
 -- for every text that reads as a plan, and every allowance that its count is within
 pub reach_demand : (text : List ℕ) (allowance : ℕ) (r : Received) → Reaches (plan_in text) allowance r
-    → (plan : Plan) → plan_in text ≡ read plan → (n : ℕ) → Count plan n → n ≤ allowance → ReachDemand plan r
+    → (plan : Plan) → plan_in text ≡ Ok plan → (n : ℕ) → Count plan n → n ≤ allowance → ReachDemand plan r
 reach_demand text allowance r w plan e n counts enough =
     let demanded = (demand_2 text allowance w.solved w.of_text).plans plan e in
     let within = subst (λ m. m ≤ allowance) (count_unique plan n demanded.count counts demanded.counts) enough in

@@ -6,8 +6,9 @@ use mathlib.Core.List.{List}
 use mathlib.Core.Logic.{⊎_elim}
 use native.Mathlib.Omega.{arith}
 use lib.ListN.{length}
+use Rattle.std.specs.Prelude.{Err, Ok}
 use Rattle.limits.specs.Limits.{most_binders, level_sets}
-use Rattle.reading.specs.Plan.{Outcome, refused, read, Plan, plan_in}
+use Rattle.reading.specs.Plan.{Outcome, Plan, plan_in}
 use Rattle.solving.specs.declared.Solved.{Solved}
 use Rattle.solving.specs.Solutions.{Sized}
 use Rattle.solving.specs.Solve.{Solves, refused_by}
@@ -58,8 +59,8 @@ solves_sized o allowance s = go o
     nothing f e = subst⁻¹ (λ r. Sized r.solution) e (record { binders = refl; ins = refl; outs = refl })
 
     go : (o : Outcome Plan) → Solves o allowance s → Sized s.solution
-    go (refused f) e = nothing f e
-    go (read plan) w = ⊎_elim (λ a. a.sized) (λ a. nothing _ a.is) w
+    go (Err f) e = nothing f e
+    go (Ok plan) w = ⊎_elim (λ a. a.sized) (λ a. nothing _ a.is) w
 
 -- 8,128 bytes always suffice
 pub sheet_most : {text : List ℕ} {allowance : ℕ} {sheet : List ℕ} → SheetFor text allowance sheet → length sheet ≤ longest_sheet

@@ -1,9 +1,9 @@
 -- Demand 1 as one statement, of what writing the sheet of a text does.
 -- Assumes nothing.
-use Rattle.std.specs.Prelude.{ℕ, ◌<◌, ◌≤◌, ◌≡◌, List, [], ◌∷◌, ◌++◌, length, drop}
+use Rattle.std.specs.Prelude.{ℕ, ◌<◌, ◌≤◌, ◌≡◌, List, [], ◌∷◌, ◌++◌, length, drop, Err, Ok}
 use Rattle.lines.specs.Promise.{OfReading}
 use Rattle.reading.specs.declared.Refusal.{Refusal}
-use Rattle.reading.specs.Plan.{refused, read, Plan, plan_in}
+use Rattle.reading.specs.Plan.{Plan, plan_in}
 use Rattle.solving.specs.Rounds.{Exceeds}
 use Rattle.solving.specs.Solve.{refused_by, over_allowance}
 use Rattle.judging.specs.declared.Answer.{Answer}
@@ -29,8 +29,8 @@ pub record Demand1 (text : List ℕ) (allowance : ℕ) (before : List ℕ) (retu
   pub answer : Answer
   pub judged : Judges (plan_in text) allowance answer
   pub only : (a : Answer) → Judges (plan_in text) allowance a → a ≡ answer
-  pub refusals : (f : Refusal) → plan_in text ≡ refused f → IsRefusal f answer
-  pub over : (plan : Plan) → plan_in text ≡ read plan → Exceeds plan allowance → answer ≡ refusal_of over_allowance
+  pub refusals : (f : Refusal) → plan_in text ≡ Err f → IsRefusal f answer
+  pub over : (plan : Plan) → plan_in text ≡ Ok plan → Exceeds plan allowance → answer ≡ refusal_of over_allowance
   pub untouched : length before < length (sheet_of answer) → (values_of returned ≡ 15 ∷ length (sheet_of answer) ∷ []) × (after ≡ before)
   pub written : length (sheet_of answer) ≤ length before
       → (values_of returned ≡ 0 ∷ length (sheet_of answer) ∷ []) × (after ≡ sheet_of answer ++ drop (length (sheet_of answer)) before)

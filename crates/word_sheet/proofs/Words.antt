@@ -11,6 +11,7 @@ use native.Mathlib.Omega.{arith}
 use borrow.Author.Tests.{lt-ltb}
 use lib.ListN.{length, take, get_or, replicate, length-append, length-replicate, get_or-append}
 use lib.Seq.{take-append_seam}
+use Rattle.std.specs.Prelude.{Err, Ok}
 use Rattle.limits.specs.Limits.{most_channels, most_labels, longest_short}
 use Rattle.label_bytes.specs.Characters.{WellFormed}
 use Rattle.label_bytes.specs.Label.{IsLabel, shortened}
@@ -24,7 +25,7 @@ use Rattle.putting.specs.Put.{Put}
 use Rattle.putting.proofs.Putting.{put_same}
 use Rattle.reading.specs.declared.Reading.{Reading}
 use Rattle.reading.specs.declared.Refusal.{Refusal}
-use Rattle.reading.specs.Plan.{Outcome, refused, read, Plan, plan_in, no_head, reading_of}
+use Rattle.reading.specs.Plan.{Outcome, Plan, plan_in, no_head, reading_of}
 use Rattle.reading.specs.Promise.{LabelsWithin, Kept}
 use Rattle.reading.proofs.Promise.{kept}
 use Rattle.solving.specs.declared.Solved.{Solved}
@@ -68,16 +69,16 @@ module _ (plan : List ℕ) (r : Reading) (e : r ≡ reading_of (plan_in plan)) w
   read_listed = subst⁻¹ (λ s. Listed s.labels s.labelled) e (go (plan_in plan) (kept plan))
     where
       go : (o : Outcome Plan) → Kept o → Listed (reading_of o).labels (reading_of o).labelled
-      go (refused f) k = record { sized = refl; counted = omega arith; fit = λ i d l. absurd (omega arith) }
-      go (read p) k = padded_listed p.head 0 [] p.labels k.labels k.labelled
+      go (Err f) k = record { sized = refl; counted = omega arith; fit = λ i d l. absurd (omega arith) }
+      go (Ok p) k = padded_listed p.head 0 [] p.labels k.labels k.labelled
 
   read_labels_lem : take r.labelled r.labels ≡ labels_of (plan_in plan)
   unfolding padded
   read_labels_lem = ap (λ (s : Reading). take s.labelled s.labels) e ∙ go (plan_in plan)
     where
       go : (o : Outcome Plan) → take (reading_of o).labelled (reading_of o).labels ≡ labels_of o
-      go (refused f) = refl
-      go (read p) = take-append_seam p.labels (replicate (most_labels - length p.labels) no_label)
+      go (Err f) = refl
+      go (Ok p) = take-append_seam p.labels (replicate (most_labels - length p.labels) no_label)
 
 -- ---- the numbers of a breach
 
@@ -104,8 +105,8 @@ verdict_two_digits plan allowance a j = go (plan_in plan) (kept plan) j.solved a
     go : (o : Outcome Plan) → Kept o → Solves o allowance a.solved → (v : Verdict) → VerdictBeside a.solved v → VerdictTwoDigits v
     go o k s Unjudged beside = tt
     go o k s Yes beside = tt
-    go (refused f) k s (No b) beside = absurd (refused_none a.solved b (λ e. omega (arith, number s, k.0.0)) beside)
-    go (read plan) k s (No b) beside = ⊎_elim judged spent s
+    go (Err f) k s (No b) beside = absurd (refused_none a.solved b (λ e. omega (arith, number s, k.0.0)) beside)
+    go (Ok plan) k s (No b) beside = ⊎_elim judged spent s
       where
         judged : Answered plan allowance a.solved → BreachTwoDigits b
         judged w =
@@ -226,8 +227,8 @@ within_labelling h least before (label ∷ labels) w kind number some =
     go false behind some = behind some
 
 plan_labelling : (o : Outcome Plan) → Kept o → Labelling (labels_of o)
-plan_labelling (refused f) k = within_labelling no_head 0 [] [] tt
-plan_labelling (read p) k = within_labelling p.head 0 [] p.labels k.labels
+plan_labelling (Err f) k = within_labelling no_head 0 [] [] tt
+plan_labelling (Ok p) k = within_labelling p.head 0 [] p.labels k.labels
 
 name_formed : (word : List ℕ) (number : ℕ) (bytes : List ℕ) → all_plain word ≡ true → TwoDigits number → (0 < length bytes → IsLabel bytes)
     → WellFormed (name_by word number bytes)

@@ -1,11 +1,11 @@
 -- Document 02, order 2: the second sheet, one line in people's own words, of what judging answers.
 -- Assumes nothing.
-use Rattle.std.specs.Prelude.{ℕ, zero, suc, ◌+◌, ◌/◌, ◌%◌, Bool, cond, ◌&&◌, ◌≡◌, List, [], ◌∷◌, ◌++◌, ltb, eqb}
+use Rattle.std.specs.Prelude.{ℕ, zero, suc, ◌+◌, ◌/◌, ◌%◌, Bool, cond, ◌&&◌, ◌≡◌, List, [], ◌∷◌, ◌++◌, ltb, eqb, Err, Ok}
 use Rattle.label_bytes.specs.Label.{shortened}
 use Rattle.lines.specs.declared.Label.{Label}
 use Rattle.lines.specs.Labels.{channel_kind, level_kind, bytes_of_label}
 use Rattle.putting.specs.Characters.{text}
-use Rattle.reading.specs.Plan.{Outcome, refused, read, Plan, plan_in}
+use Rattle.reading.specs.Plan.{Outcome, Plan, plan_in}
 use Rattle.judging.specs.declared.Answer.{Answer}
 use Rattle.judging.specs.declared.Breach.{Breach}
 use Rattle.judging.specs.declared.Verdict.{Verdict}
@@ -72,8 +72,8 @@ longest_words = 114
 
 -- the labels of what a text reads as
 abbrev pub labels_of : Outcome Plan → List Label
-labels_of (refused f) = []
-labels_of (read plan) = plan.labels
+labels_of (Err f) = []
+labels_of (Ok plan) = plan.labels
 
 -- the word sheet of a text within an allowance of rounds: that of what judging answers
 pub record WordSheetFor (plan : List ℕ) (allowance : ℕ) (sheet : List ℕ) : Type 0 where
