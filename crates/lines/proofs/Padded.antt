@@ -3,10 +3,13 @@
 use Prim.Native.Nat.{ℕ, suc, ◌+◌, ◌-◌, ◌≤◌, ◌<◌}
 use mathlib.Core.Path.{◌≡◌, refl, sym, ap, ◌∙◌}
 use mathlib.Core.List.{List, [], ◌∷◌, ◌++◌, append_assoc}
+use mathlib.Core.HLevel.{is_prop→PathP}
+use native.Mathlib.Bridge.{le_prop}
 use native.Mathlib.Omega.{arith}
 use lib.ListN.{length, take, drop, set, replicate, length-append, length-drop, length-replicate}
 use lib.Seq.{take_all, set_at, length-take-le}
 use Rattle.limits.specs.Limits.{longest_label}
+use Rattle.lines.specs.declared.label.Label.{Label}
 use Rattle.lines.specs.Labels.{label_of}
 use Rattle.lines.specs.Values.{padded}
 use Rattle.text.proofs.Lists.{drop_replicate}
@@ -34,13 +37,19 @@ padded_more n d xs x h =
 
 -- ---- the label in a frame
 
+-- two labels of one thing, with the same bytes, are equal
+pub same_label : (a b : Label) → a.kind ≡ b.kind → a.number ≡ b.number → a.size ≡ b.size → a.bytes ≡ b.bytes → a ≡ b
+same_label a b kind number size bytes = λ i. record {
+  kind = kind i;
+  number = number i;
+  size = size i;
+  bytes = bytes i;
+  sized = is_prop→PathP (λ j. size j ≤ length (bytes j)) (λ j. le_prop) a.sized b.sized i;
+}
+
 -- its array is as long as a label may be
 pub label_array : (frame : List ℕ) → length frame ≤ 3 + longest_label → length (label_of frame).bytes ≡ longest_label
 label_array frame fits = padded_length longest_label 0 (drop 3 frame) (omega (arith, length-drop 3 frame))
-
--- and has room for its bytes
-pub label_stored : (frame : List ℕ) → length frame ≤ 3 + longest_label → (label_of frame).size ≤ length (label_of frame).bytes
-label_stored frame fits = omega (arith, length-drop 3 frame, label_array frame fits)
 
 -- which are laid in the first places of a blank one
 pub label_laid : (frame : List ℕ) (size : ℕ) (front : List ℕ) → size ≤ longest_label → length frame ≡ 3 + size

@@ -11,7 +11,7 @@ use borrow.Author.Tests.{eqb-true, leb-false, ltb-false, eqb-false, not-false}
 use Rattle.lines.specs.declared.Head.{Head}
 use Rattle.lines.specs.declared.FreeName.{FreeName}
 use Rattle.lines.specs.declared.Offer.{Offer}
-use Rattle.lines.specs.declared.Label.{Label}
+use Rattle.lines.specs.declared.label.Label.{Label}
 use Rattle.lines.specs.declared.Marker.{Marker}
 use Rattle.lines.specs.declared.Node.{Node}
 use Rattle.lines.specs.declared.Node.TheVariants.{Send, Receive, Match}

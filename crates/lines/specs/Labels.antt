@@ -5,12 +5,12 @@ use Rattle.limits.specs.Limits.{most_channels, most_binders, outermost, longest_
 use Rattle.label_bytes.specs.Label.{is_label}
 use Rattle.text.specs.Text.{byte}
 use Rattle.lines.specs.declared.Head.{Head}
-use Rattle.lines.specs.declared.Label.{Label}
+use Rattle.lines.specs.declared.label.Label.{Label}
 use Rattle.lines.specs.declared.frames.Frame.{Frame}
 use Rattle.lines.specs.declared.frames.Section.TheVariants.{LabelLines}
 use Rattle.lines.specs.declared.reasons.Reason.TheVariants.{TooHigh, NotAscending, IllFormedLabel}
 use Rattle.lines.specs.Frames.{Judged, is_section}
-use Rattle.lines.specs.Values.{padded}
+use Rattle.lines.specs.Values.{padded, padded_holds}
 
 -- ---- what may have a label
 
@@ -53,6 +53,7 @@ label_of frame =
       number = byte 2 frame;
       size = length (drop 3 frame);
       bytes = padded longest_label 0 (drop 3 frame);
+      sized = padded_holds longest_label 0 (drop 3 frame);
     }
 
 -- `least` is the smallest place that may stand here: one more than the place before

@@ -6,7 +6,7 @@ use Rattle.lines.specs.declared.FreeName.{FreeName}
 use Rattle.lines.specs.declared.Head.{Head}
 use Rattle.lines.specs.declared.Node.{Node}
 use Rattle.lines.specs.declared.Offer.{Offer}
-use Rattle.lines.specs.declared.Label.{Label}
+use Rattle.lines.specs.declared.label.Label.{Label}
 use Rattle.lines.specs.declared.frames.Section.TheVariants.{FirstLine, FreeNames, OfferLines, LabelLines, TreeLines}
 use Rattle.lines.specs.declared.reasons.Reason.TheVariants.{TooManyNodes, TooDeep}
 use Rattle.limits.specs.Limits.{most_nodes}

@@ -71,7 +71,6 @@ fn label_of(text: &[u8], at: usize, size: usize) -> Label
 
 // A label of a thing whose place has to be `least` or more.
 fn label_rule(head: Head, least: usize, label: Label) -> Result<Option<Label>, Reason>
-    requires { label.size ≤ length label.bytes }
     ensures { result ≡ label_rule head least label }
 {
     if !is_thing(head, label.kind, label.number) {
@@ -80,7 +79,7 @@ fn label_rule(head: Head, least: usize, label: Label) -> Result<Option<Label>, R
     if place_among(label.kind, label.number) < least {
         return Err(Reason::NotAscending);
     }
-    if !label_bytes::is_label(&label.bytes[..label.size]) {
+    if !label_bytes::is_label(label.own_bytes()) {
         return Err(Reason::IllFormedLabel);
     }
     Ok(Some(label))

@@ -13,15 +13,17 @@ use crate::frames::{Section, frame_in, only, to_tree};
 use crate::labels::label_in;
 use crate::rules::{head_in, name_in, node_in, offer_in};
 use crate::scope::Scope;
-use limits::{LONGEST_LABEL, MOST_NODES};
+use limits::MOST_NODES;
 use sets::Set;
 
 pub mod frames;
+mod label;
 pub mod labels;
 mod reasons;
 mod rules;
 pub mod scope;
 
+pub use label::Label;
 pub use reasons::Reason;
 
 // What a name stands for: a channel, or a receive's binder.
@@ -67,16 +69,6 @@ pub struct FreeName {
 pub struct Offer {
     pub channel: u8,
     pub set: Set,
-}
-
-// The label of a channel, a binder or a level: its kind and number, how many bytes it has, and these with zeros behind them: memory is fixed, so
-// the array holds the longest.
-#[derive(Clone, Copy)]
-pub struct Label {
-    pub kind: u8,
-    pub number: u8,
-    pub size: usize,
-    pub bytes: [u8; LONGEST_LABEL],
 }
 
 // What the line at `at` says as the first line.

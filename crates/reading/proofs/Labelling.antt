@@ -12,7 +12,7 @@ use Rattle.limits.specs.Limits.{most_labels}
 use Rattle.text.specs.Text.{Line, rest}
 use Rattle.text.specs.Positions.{rest_at}
 use Rattle.lines.specs.declared.Head.{Head}
-use Rattle.lines.specs.declared.Label.{Label}
+use Rattle.lines.specs.declared.label.Label.{Label}
 use Rattle.lines.specs.declared.reasons.Reason.{Reason}
 use Rattle.lines.specs.declared.reasons.Reason.TheVariants.{TextEnds, RepeatedLabel}
 use Rattle.lines.specs.Frames.{number_of}
@@ -26,7 +26,7 @@ use Rattle.lines.proofs.Things.{place_below}
 use Rattle.reading.specs.declared.Refusal.{Refusal}
 use Rattle.reading.specs.declared.labels.Labels.{Labels}
 use Rattle.reading.specs.Plan.{Outcome, Place, refuse, Labelled, is_repeated, labels_on, read_labels}
-use Rattle.reading.specs.inner.Working.{StandsIn, Past, Sized, FreshLabels, Lists}
+use Rattle.reading.specs.inner.Working.{StandsIn, Past, FreshLabels, Lists}
 use Rattle.reading.proofs.Growing.{onward_past}
 
 -- ---- the labels, by what the next line says
@@ -49,12 +49,6 @@ module _ (h : Head) (least : ℕ) (before : List Label) (line : ℕ) where
   labels_fine [] next e = cc no_line
   labels_fine (l ∷ ls) next e = rw e
 
--- ---- labels in an array
-
-sized_more : (before : List Label) (label : Label) → Sized before → label.size ≤ length label.bytes → Sized (before ++ (label ∷ []))
-sized_more [] label w s = (s, tt)
-sized_more (b ∷ before) label w s = (w.0, sized_more before label w.1 s)
-
 -- ---- the labels so far, behind which the lines that are left decide the outcome
 
 pub record SoFar (s : List ℕ) (h : Head) (o : Outcome Labelled) (state : Labels) : Type 0 where
@@ -63,7 +57,6 @@ pub record SoFar (s : List ℕ) (h : Head) (o : Outcome Labelled) (state : Label
   pub goes : o ≡ read_labels h state.least before state.cursor.line (rest_at s state.cursor.at)
   pub held : state.labels ≡ padded most_labels no_label before
   pub counted : state.count ≡ length before
-  pub sized : Sized before
   pub fewer : state.count ≤ state.least
   pub most : state.least ≤ most_labels
 
@@ -77,7 +70,6 @@ so_far_none s h state stands fresh =
       goes = ap (λ l. read_labels h l [] state.cursor.line (rest_at s state.cursor.at)) (sym fresh.least);
       held = fresh.labels;
       counted = fresh.none;
-      sized = tt;
       fewer = let least = fresh.least in let none = fresh.none in omega arith;
       most = let least = fresh.least in omega arith;
     }
@@ -94,9 +86,6 @@ module _ (s : List ℕ) (h : Head) (o : Outcome Labelled) (state : Labels) (so_f
   pub labels_before : take state.count state.labels ≡ so_far.before
   unfolding padded
   labels_before = ap (take state.count) so_far.held ∙ take_at so_far.before _ state.count (sym so_far.counted)
-
-  pub labels_sized : Sized (take state.count state.labels)
-  labels_sized = subst Sized (sym labels_before) so_far.sized
 
   pub room_counted : state.count ≤ length state.labels
   room_counted =
@@ -124,9 +113,6 @@ module _ (s : List ℕ) (h : Head) (o : Outcome Labelled) (state : Labels) (so_f
     label_good =
         let left = rest_at s state.cursor.at in
         (subst (Gives (OnLine left (NextWithin (LabelWithin h state.least)))) (sym found) (label_given left h state.least)).0
-
-    pub label_sized : label.size ≤ length label.bytes
-    label_sized = let most = label_good.most in let array = label_good.array in omega arith
 
     pub label_below : HeadWithin h → place_among label.kind label.number < most_labels
     label_below within = place_below h within _ _ label_good.thing
@@ -185,7 +171,6 @@ module _ (s : List ℕ) (h : Head) (o : Outcome Labelled) (state : Labels) (so_f
                 ∙ ap (λ n. set (padded most_labels no_label so_far.before) n label) count
                 ∙ padded_more most_labels no_label so_far.before label (omega arith);
             counted = omega arith;
-            sized = sized_more so_far.before label so_far.sized label_sized;
             fewer = omega arith;
             most = omega arith;
           }

@@ -14,7 +14,7 @@ use Rattle.limits.specs.Limits.{most_labels}
 use Rattle.text.specs.Text.{Line}
 use Rattle.text.proofs.Tests.{or-false}
 use Rattle.lines.specs.declared.Head.{Head}
-use Rattle.lines.specs.declared.Label.{Label}
+use Rattle.lines.specs.declared.label.Label.{Label}
 use Rattle.lines.specs.declared.reasons.Reason.TheVariants.{RepeatedLabel}
 use Rattle.lines.specs.Labels.{place_among, bytes_of_label}
 use Rattle.lines.specs.Line.{next_label}

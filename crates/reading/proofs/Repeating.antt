@@ -1,17 +1,15 @@
 -- Labels compared with those before them, label by label, each by what is left. Assumes nothing.
-use Prim.Native.Nat.{ℕ, zero, suc, ◌+◌, ◌≤◌, ◌<◌}
+use Prim.Native.Nat.{ℕ, ◌+◌, ◌≤◌, ◌<◌}
 use mathlib.Core.Path.{◌≡◌, refl, sym, ap, ◌∙◌}
 use mathlib.Core.Bool.{true, false, ◌||◌, ◌&&◌}
 use mathlib.Core.List.{List, [], ◌∷◌}
-use native.Mathlib.Nat.{le_of_suc-le-suc, not-suc-le-zero}
 use native.Mathlib.Numerals.{add-one}
 use lib.Dec.{eqb}
 use lib.ListN.{length, get_or, drop, drop_of_length-le}
 use lib.Pointwise.{pointwise}
 use lib.Seq.{drop-cons}
-use Rattle.lines.specs.declared.Label.{Label}
+use Rattle.lines.specs.declared.label.Label.{Label}
 use Rattle.reading.specs.Plan.{same_bytes, is_same, is_repeated}
-use Rattle.reading.specs.inner.Working.{Sized}
 
 -- byte for byte, as `==` compares slices
 pub bytes_same : (xs ys : List ℕ) → pointwise eqb xs ys ≡ same_bytes xs ys
@@ -23,24 +21,17 @@ bytes_same (x ∷ xs) (y ∷ ys) = ap (λ b. eqb x y && b) (bytes_same xs ys)
 
 -- label by label
 module _ (kind : ℕ) (bytes : List ℕ) (before : List Label) (i : ℕ) where
-  module _ (none : Label) (h : i < length before) where
-    label_at : is_repeated kind bytes (drop i before) ≡ (is_same kind bytes (get_or before i none) || is_repeated kind bytes (drop (i + 1) before))
+  module _ (other : Label) (h : i < length before) (found : other ≡ get_or before i other) where
+    label_at : is_repeated kind bytes (drop i before) ≡ (is_same kind bytes other || is_repeated kind bytes (drop (i + 1) before))
     unfolding is_repeated
-    label_at = rw (drop-cons before i none h, add-one)
+    label_at = rw (drop-cons before i other h, add-one, ← found)
 
-    pub repeats_on : false ≡ is_same kind bytes (get_or before i none) → is_repeated kind bytes (drop (i + 1) before) ≡ is_repeated kind bytes (drop i before)
+    pub repeats_on : false ≡ is_same kind bytes other → is_repeated kind bytes (drop (i + 1) before) ≡ is_repeated kind bytes (drop i before)
     repeats_on n = sym (label_at ∙ rw (← n))
 
-    pub repeats_here : true ≡ is_same kind bytes (get_or before i none) → true ≡ is_repeated kind bytes (drop i before)
+    pub repeats_here : true ≡ is_same kind bytes other → true ≡ is_repeated kind bytes (drop i before)
     repeats_here s = sym (label_at ∙ rw (← s))
 
   pub repeats_end : length before ≤ i → false ≡ is_repeated kind bytes (drop i before)
   unfolding is_repeated
   repeats_end h = rw (drop_of_length-le before h)
-
--- each has room for its bytes
-pub sized_at : (labels : List Label) (i : ℕ) (none : Label) → i < length labels → Sized labels
-    → (get_or labels i none).size ≤ length (get_or labels i none).bytes
-sized_at [] i none h w = absurd (not-suc-le-zero h)
-sized_at (label ∷ labels) zero none h w = w.0
-sized_at (label ∷ labels) (suc i) none h w = sized_at labels i none (le_of_suc-le-suc h) w.1

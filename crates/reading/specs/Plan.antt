@@ -4,7 +4,7 @@
 use Rattle.std.specs.Prelude.{ℕ, zero, suc, ◌+◌, Bool, true, false, cond, ◌&&◌, ◌||◌, List, [], ◌∷◌, ◌++◌, Option, Some, None, Result, Ok, Err, length, replicate, set, ltb, eqb}
 use Rattle.lines.specs.declared.FreeName.{FreeName}
 use Rattle.lines.specs.declared.Head.{Head}
-use Rattle.lines.specs.declared.Label.{Label}
+use Rattle.lines.specs.declared.label.Label.{Label}
 use Rattle.lines.specs.declared.Node.{Node}
 use Rattle.lines.specs.declared.Offer.{Offer}
 use Rattle.lines.specs.declared.reasons.Reason.{Reason}

@@ -1,10 +1,10 @@
 // The labels, read one after the other up to the first line of a later section: a loop, since what it holds is large.
-ghost use Rattle.std.specs.Prelude.{◌≡◌, [], ◌≤◌, length};
+ghost use Rattle.std.specs.Prelude.{◌≡◌, []};
 ghost use Rattle.text.specs.Positions.{rest_at};
 ghost use Rattle.lines.specs.Labels.{bytes_of_label};
 ghost use Rattle.lines.specs.Promise.{HeadWithin};
 ghost use Rattle.reading.specs.Plan.{is_same, is_repeated, read_labels};
-ghost use Rattle.reading.specs.inner.Working.{StandsIn, Sized, FreshLabels, Lists};
+ghost use Rattle.reading.specs.inner.Working.{StandsIn, FreshLabels, Lists};
 
 use crate::Refusal;
 use crate::cursor::{Cursor, past, refuse};
@@ -35,15 +35,13 @@ pub(crate) fn fresh_labels(cursor: Cursor) -> Labels
 
 // Whether two labels are of one kind and have the same bytes.
 fn is_same(other: Label, label: Label) -> bool
-    requires { (other.size ≤ length other.bytes) × (label.size ≤ length label.bytes) }
     ensures { result ≡ is_same label.kind (bytes_of_label label) other }
 {
-    other.kind == label.kind && other.bytes[..other.size] == label.bytes[..label.size]
+    other.kind == label.kind && other.own_bytes() == label.own_bytes()
 }
 
 // Whether one of the labels before is of a label's kind and has its bytes.
 fn is_repeated(before: &[Label], label: Label) -> bool
-    requires { Sized before.now × (label.size ≤ length label.bytes) }
     ensures { result ≡ is_repeated label.kind (bytes_of_label label) before.now }
 {
     for other in before {

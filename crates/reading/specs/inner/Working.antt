@@ -1,10 +1,9 @@
 -- What the code holds while it reads, in the terms of the definitions: where it stands, the free names, the offers, the labels and the
 -- nodes read so far.
 -- Assumes nothing.
-use Rattle.std.specs.Prelude.{ℕ, zero, suc, ◌+◌, ◌≤◌, ◌≡◌, List, [], ◌∷◌, Result, Ok, Err, IsOkAnd, length, replicate}
+use Rattle.std.specs.Prelude.{ℕ, zero, suc, ◌+◌, ◌≤◌, ◌≡◌, List, Result, Ok, Err, IsOkAnd, length, replicate}
 use Rattle.std.proofs.lemmas.List.Edits.{sets}
 use Rattle.text.specs.Positions.{end_at, rest_at}
-use Rattle.lines.specs.declared.Label.{Label}
 use Rattle.lines.specs.declared.Node.{Node}
 use Rattle.lines.specs.declared.Node.TheVariants.{Nil}
 use Rattle.sets.specs.Rows.{empty_row}
@@ -81,11 +80,6 @@ abbrev pub Lays : List ℕ → Offers → Outcome Offered → Result Offers Refu
 Lays s before = Holds (Laid s before)
 
 -- ---- the labels read so far
-
--- no label has more bytes than its array
-abbrev pub Sized : List Label → Type 0
-Sized [] = Unit {0}
-Sized (label ∷ labels) = (label.size ≤ length label.bytes) × Sized labels
 
 -- no label yet
 pub record FreshLabels (cursor : Cursor) (r : Labels) : Type 0 where

@@ -1,11 +1,9 @@
--- `label_in`: a frame of the labels has 4 to 63 bytes, of which the label's stand in its array. Assumes nothing.
+-- `label_in`: a frame of the labels has 4 to 63 bytes. Assumes nothing.
 use mathlib.Core.Path.{◌≡◌, ap}
 use native.Mathlib.Omega.{arith}
 use borrow.Author.Rules.{rules}
-use Rattle.text.specs.Positions.{bytes_at}
 use Rattle.lines.specs.declared.frames.Section.TheVariants.{LabelLines}
 use Rattle.lines.specs.Frames.{rank}
-use Rattle.lines.proofs.Padded.{label_stored}
 use Rattle.lines.proofs.Table.{label_long}
 use Rattle.lines.proofs.labels.label_in.Goals as goal
 
@@ -18,8 +16,3 @@ pub label_of-requires : goal.label_of-requires
 label_of-requires c =
     let own : c.args.frame.section ≡ LabelLines = search rules in
     omega (arith, label_long _ _ c.requires (ap rank own))
-
-pub label_rule-requires : goal.label_rule-requires
-label_rule-requires c =
-    let own : c.args.frame.section ≡ LabelLines = search rules in
-    rw c.label_of.ensures (label_stored (bytes_at c.args.text.now c.args.at) (label_long _ _ c.requires (ap rank own)).1)

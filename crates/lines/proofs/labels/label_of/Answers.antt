@@ -6,7 +6,8 @@ use lib.ListN.{replicate}
 use lib.Seq.{length-take-le}
 use Rattle.limits.specs.Limits.{longest_label}
 use Rattle.text.specs.Positions.{bytes_at}
-use Rattle.lines.proofs.Padded.{label_laid}
+use Rattle.lines.specs.Labels.{label_of}
+use Rattle.lines.proofs.Padded.{same_label, label_laid}
 use Rattle.lines.proofs.labels.label_of.Goals as goal
 
 pub slice_bounds-bytes_in-end : goal.slice_bounds-bytes_in-end
@@ -19,4 +20,4 @@ bytes_in-requires c =
 pub returns : goal.returns
 returns c =
     let bytes = label_laid (bytes_at c.args.text.now c.args.at) c.args.size _ c.requires.0 c.requires.1 c.bytes_in.ensures in
-    rw (c.byte_in.ensures, c.byte_in-2.ensures, bytes.1, bytes.0)
+    same_label _ (label_of (bytes_at c.args.text.now c.args.at)) c.byte_in.ensures c.byte_in-2.ensures bytes.0 bytes.1

@@ -8,10 +8,10 @@ pub returns-then-not-is_label : goal.returns-then-not-is_label
 returns-then-not-is_label c =
     let thing = sym c.is_thing.ensures ∙ c.if-not-is_thing.false in
     let formed = sym (test_is _ _ c.is_label.ensures) ∙ c.if-not-is_label.true in
-    rw (thing, ← c.place_among.ensures, le-ltb _ _ c.if-place_among-least.false, formed)
+    rw (thing, ← c.place_among.ensures, le-ltb _ _ c.if-place_among-least.false, ← c.own_bytes.ensures, formed)
 
 pub returns : goal.returns
 returns c =
     let thing = sym c.is_thing.ensures ∙ c.if-not-is_thing.false in
     let formed = sym (test_is _ _ c.is_label.ensures) ∙ c.if-not-is_label.false in
-    rw (thing, ← c.place_among.ensures, le-ltb _ _ c.if-place_among-least.false, formed)
+    rw (thing, ← c.place_among.ensures, le-ltb _ _ c.if-place_among-least.false, ← c.own_bytes.ensures, formed)

@@ -8,7 +8,7 @@ use Rattle.reading.proofs.labels.is_same.Goals as goal
 pub returns-then-other-label : goal.returns-then-other-label
 unfolding is_same
 returns-then-other-label c =
-    rw (eq-eqb _ _ c.if-other-label.true) (c.eq.ensures ∙ bytes_same _ _)
+    rw (eq-eqb _ _ c.if-other-label.true, ← c.own_bytes.ensures, ← c.own_bytes-then-other-label.ensures) (c.eq.ensures ∙ bytes_same _ _)
 
 pub returns-else-other-label : goal.returns-else-other-label
 unfolding is_same

@@ -2,9 +2,10 @@
 -- one law over what the calls gave.
 -- Assumes nothing.
 use Prim.Native.Nat.{◌+◌}
+use native.Mathlib.Omega.{arith}
 use mathlib.Core.Path.{refl, sym, ap, ◌∙◌}
 use Rattle.std.specs.Prelude.{Ok}
-use Rattle.reading.proofs.Labelling.{so_far_none, labels_sized, labels_refused, labels_done, label_there, label_sized, room_for_label, label_repeated, labels_on_lem}
+use Rattle.reading.proofs.Labelling.{so_far_none, labels_refused, labels_done, labels_long, label_there, room_for_label, label_repeated, labels_on_lem}
 use Rattle.reading.proofs.labels.read_labels.Goals as goal
 
 pub loop-reason-init : goal.loop-reason-init
@@ -17,11 +18,6 @@ pub returns-in-Ok-None : goal.returns-in-Ok-None
 returns-in-Ok-None c =
     labels_done _ _ _ _ c.loop-reason.invariant (sym (c.in-Ok-None.is ∙ ap Ok c.in-Ok-None.field-0-is) ∙ c.next_label.ensures)
 
-pub is_repeated-requires : goal.is_repeated-requires
-is_repeated-requires c =
-    let found = sym (c.in-Ok-Some.is ∙ ap Ok c.in-Ok-Some.field-0-is) ∙ c.next_label.ensures in
-    (labels_sized _ _ _ _ c.loop-reason.invariant, label_sized _ _ _ _ c.loop-reason.invariant _ found)
-
 pub returns-then-is_repeated : goal.returns-then-is_repeated
 returns-then-is_repeated c =
     let found = sym (c.in-Ok-Some.is ∙ ap Ok c.in-Ok-Some.field-0-is) ∙ c.next_label.ensures in
@@ -31,6 +27,11 @@ pub bounds-state-count : goal.bounds-state-count
 bounds-state-count c =
     let found = sym (c.in-Ok-Some.is ∙ ap Ok c.in-Ok-Some.field-0-is) ∙ c.next_label.ensures in
     room_for_label _ _ _ _ c.loop-reason.invariant _ found c.requires.1
+
+pub listed : goal.listed
+listed c =
+    let found = sym (c.in-Ok-Some.is ∙ ap Ok c.in-Ok-Some.field-0-is) ∙ c.next_label.ensures in
+    omega (arith, room_for_label _ _ _ _ c.loop-reason.invariant _ found c.requires.1, labels_long _ _ _ _ c.loop-reason.invariant)
 
 pub past-state-requires : goal.past-state-requires
 past-state-requires c =
