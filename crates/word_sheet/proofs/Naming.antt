@@ -14,7 +14,7 @@ use lib.Seq.{length-take-le, drop-cons, get_or-take}
 use Rattle.limits.specs.Limits.{longest_short}
 use Rattle.label_bytes.specs.Label.{IsShortened}
 use Rattle.label_bytes.proofs.Labels.{shortened_same, shortened_short}
-use Rattle.lines.specs.declared.Label.{Label}
+use Rattle.lines.specs.declared.label.Label.{Label}
 use Rattle.lines.specs.Labels.{bytes_of_label}
 use Rattle.putting.specs.Put.{Put}
 use Rattle.putting.proofs.Putting.{put_then, put_same}

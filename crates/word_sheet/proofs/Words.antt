@@ -17,7 +17,7 @@ use Rattle.label_bytes.specs.Characters.{WellFormed}
 use Rattle.label_bytes.specs.Label.{IsLabel, shortened}
 use Rattle.label_bytes.proofs.Labels.{shortened_is, shortened_label, label_well_formed, well_formed_append, all_plain, plain_well_formed}
 use Rattle.lines.specs.declared.Head.{Head}
-use Rattle.lines.specs.declared.Label.{Label}
+use Rattle.lines.specs.declared.label.Label.{Label}
 use Rattle.lines.specs.Labels.{channel_kind, level_kind, bytes_of_label, place_among}
 use Rattle.lines.specs.Values.{padded, no_label}
 use Rattle.putting.specs.Characters.{text}

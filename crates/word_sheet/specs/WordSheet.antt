@@ -2,7 +2,7 @@
 -- Assumes nothing.
 use Rattle.std.specs.Prelude.{ℕ, zero, suc, ◌+◌, ◌/◌, ◌%◌, Bool, cond, ◌&&◌, ◌≡◌, List, [], ◌∷◌, ◌++◌, ltb, eqb, Err, Ok}
 use Rattle.label_bytes.specs.Label.{shortened}
-use Rattle.lines.specs.declared.Label.{Label}
+use Rattle.lines.specs.declared.label.Label.{Label}
 use Rattle.lines.specs.Labels.{channel_kind, level_kind, bytes_of_label}
 use Rattle.putting.specs.Characters.{text}
 use Rattle.reading.specs.Plan.{Outcome, Plan, plan_in}
