@@ -1,21 +1,24 @@
--- Lines as characters: how long one is, and the turns of the loops that put a line and a text, by what is left of it.
+-- Lines as characters: how long one is, and the loop that puts one.
 -- Assumes nothing.
 use Prim.Native.Nat.{ℕ, ◌+◌, ◌*◌, ◌/◌, ◌%◌, ◌≤◌, ◌<◌}
 use mathlib.Core.Path.{◌≡◌, refl, ap, subst, ◌∙◌}
 use mathlib.Core.List.{List, [], ◌∷◌, ◌++◌, append_assoc}
 use native.Mathlib.Numerals.{add-one}
 use native.Mathlib.Omega.{arith}
-use lib.ListN.{length, set, get_or, drop, length-drop, drop_of_length-le}
+use lib.ListN.{length, set, get_or, drop, length-drop, length-set, drop_of_length-le}
 use lib.Seq.{drop-cons}
 use Rattle.text.specs.Text.{line_feed}
 use Rattle.putting.specs.Characters.{digit, hex_line, hex_lines}
-use Rattle.putting.specs.Put.{Room, Put}
-use Rattle.putting.proofs.Putting.{Left, left_none, left_store, left_room}
+use Rattle.putting.specs.Put.{Put}
+use Rattle.putting.proofs.Putting.{Left, left_none, left_store}
 
 pub line_length : (bytes : List ℕ) → length (hex_line bytes) ≡ 2 * length bytes + 1
 unfolding hex_line
 line_length [] = refl
 line_length (b ∷ bs) = omega (arith, line_length bs)
+
+-- what the search lacks where there is room for a line
+pub ruleset line_sizes = (line_length, length-drop, length-set)
 
 pub lines_append : (xs ys : List (List ℕ)) → hex_lines (xs ++ ys) ≡ hex_lines xs ++ hex_lines ys
 unfolding hex_lines
@@ -28,38 +31,18 @@ line_from : (bytes : List ℕ) (i : ℕ) → i < length bytes
 unfolding hex_line
 line_from bytes i h = rw (add-one, drop-cons bytes i 0)
 
-module _ {before : List ℕ} {at : ℕ} {xs buffer : List ℕ} {next : ℕ} (i : ℕ) where
-  module _ (bytes : List ℕ) (l : Left before at xs buffer next (hex_line (drop i bytes))) where
-    -- one byte more
-    pub line_step : i < length bytes
-        → Left before at xs (set (set buffer next (digit (get_or bytes i 0 / 16))) (next + 1) (digit (get_or bytes i 0 % 16))) (next + 2)
-        (hex_line (drop (i + 1) bytes))
-    line_step h =
-        left_store (next + 2) (omega arith)
-        (left_store (next + 1) (omega arith) (subst (Left before at xs buffer next) (line_from bytes i h) l))
+-- the loop that puts a line, by what is left of it behind i of its bytes
+module _ {before : List ℕ} {at : ℕ} {xs buffer : List ℕ} {next : ℕ} (i : ℕ) (bytes : List ℕ) (l : Left before at xs buffer next (hex_line (drop i bytes))) where
+  -- one byte more
+  pub line_step : i < length bytes
+      → Left before at xs (set (set buffer next (digit (get_or bytes i 0 / 16))) (next + 1) (digit (get_or bytes i 0 % 16))) (next + 2) (hex_line (drop (i + 1) bytes))
+  line_step h =
+      left_store (next + 2) (omega arith)
+      (left_store (next + 1) (omega arith) (subst (Left before at xs buffer next) (line_from bytes i h) l))
 
-    pub line_room : i < length bytes → Room before at xs → next + 2 < length buffer
-    line_room h r = omega (arith, (left_room r l).fits, line_length (drop i bytes), length-drop i bytes)
-
-    -- the line feed
-    pub line_end_lem : length bytes ≤ i → Put before at xs (set buffer next line_feed) (next + 1)
-    unfolding hex_line
-    line_end_lem h =
-        let last : Left before at xs buffer next (line_feed ∷ []) = subst (λ s. Left before at xs buffer next (hex_line s)) (drop_of_length-le bytes h) l in
-        left_none (left_store (next + 1) (omega arith) last)
-
-    pub line_end_room : Room before at xs → next < length buffer
-    line_end_room r = omega (arith, (left_room r l).fits, line_length (drop i bytes))
-
-  module _ (characters : List ℕ) (l : Left before at xs buffer next (drop i characters)) where
-    -- one character more
-    pub text_step : i < length characters → Left before at xs (set buffer next (get_or characters i 0)) (next + 1) (drop (i + 1) characters)
-    text_step h =
-        let cons : drop i characters ≡ get_or characters i 0 ∷ drop (i + 1) characters = rw (add-one, drop-cons characters i 0) in
-        left_store (next + 1) (omega arith) (subst (Left before at xs buffer next) cons l)
-
-    pub text_room : i < length characters → Room before at xs → next < length buffer
-    text_room h r = omega (arith, (left_room r l).fits, length-drop i characters)
-
-    pub text_end : length characters ≤ i → Put before at xs buffer next
-    text_end h = left_none (subst (Left before at xs buffer next) (drop_of_length-le characters h) l)
+  -- the line feed
+  pub line_end : length bytes ≤ i → Put before at xs (set buffer next line_feed) (next + 1)
+  unfolding hex_line
+  line_end h =
+      let last : Left before at xs buffer next (line_feed ∷ []) = subst (λ s. Left before at xs buffer next (hex_line s)) (drop_of_length-le bytes h) l in
+      left_none (left_store (next + 1) (omega arith) last)

@@ -3,37 +3,34 @@
 #![tactic(auto)]
 
 ghost use Rattle.std.specs.Prelude.{◌≡◌, ◌++◌, ◌<◌};
-ghost use Rattle.putting.specs.Characters.{digit as Sheet·digit, hex_line};
+ghost use Rattle.putting.specs.Characters.{digit, hex_line};
 ghost use Rattle.putting.specs.Put.{Room, Put};
 
-const LINE_FEED: u8 = 10;
-
 // The character of a hexadecimal digit.
+#[tactic(auto, unfolding(crate::specs::Characters::digit))]
 fn digit(value: u8) -> u8
     requires { value < 16 }
-    ensures { result ≡ Sheet·digit value }
+    ensures { result ≡ digit value }
 {
-    if value < 10 {
-        return 48 + value;
+    match value {
+        0..=9 => b'0' + value,
+        _ => b'a' + value - 10,
     }
-    87 + value
 }
 
 // Puts a line: its bytes, two digits each, and a line feed.
+#[tactic(auto, using(crate::proofs::Characters::line_sizes))]
 pub fn put_line(buffer: &mut [u8], at: usize, bytes: &[u8]) -> usize
     requires { Room buffer.old at (hex_line bytes.now) }
     ensures { Put buffer.old at (hex_line bytes.now) buffer.new result }
 {
     let mut next = at;
-    let mut i = 0;
-    while i < bytes.len() {
-        let byte = bytes[i];
+    for byte in bytes {
         buffer[next] = digit(byte / 16);
         buffer[next + 1] = digit(byte % 16);
         next += 2;
-        i += 1;
     }
-    buffer[next] = LINE_FEED;
+    buffer[next] = b'\n';
     next + 1
 }
 
@@ -42,17 +39,13 @@ pub fn put_text(buffer: &mut [u8], at: usize, characters: &[u8]) -> usize
     requires { Room buffer.old at characters.now }
     ensures { Put buffer.old at characters.now buffer.new result }
 {
-    let mut next = at;
-    let mut i = 0;
-    while i < characters.len() {
-        buffer[next] = characters[i];
-        next += 1;
-        i += 1;
-    }
-    next
+    let end = at + characters.len();
+    buffer[at..end].copy_from_slice(characters);
+    end
 }
 
 // Puts the last two lines of a sheet: bytes, and a phrase that ends in a line feed.
+#[tactic(auto, using(crate::proofs::Putting::rooms))]
 pub fn put_last(buffer: &mut [u8], at: usize, bytes: &[u8], phrase: &[u8]) -> usize
     requires { Room buffer.old at (hex_line bytes.now ++ phrase.now) }
     ensures { Put buffer.old at (hex_line bytes.now ++ phrase.now) buffer.new result }
