@@ -6,9 +6,8 @@ use mathlib.Core.List.{List, ◌++◌}
 use native.Mathlib.Decide.{dec_le}
 use native.Mathlib.Omega.{arith}
 use lib.ListN.{length, drop}
-use Rattle.sheet.specs.declared.Written.{Written}
 use Rattle.sheet.specs.Sheet.{SheetFor}
-use Rattle.sheet.specs.Write.{length_in, Wrote, Writes}
+use Rattle.sheet.specs.Write.{Written, length_in, Wrote, Writes}
 use Rattle.sheet.proofs.Writing.{OneSheet, length_is}
 use Rattle.sheet.proofs.Sheets.{sheet_once}
 use Rattle.reach_sheet.specs.ReachSheet.{ReachSheetFor}

@@ -7,14 +7,15 @@ ghost use Rattle.reach_sheet.specs.ReachSheet.{ReachSheetFor};
 ghost use Rattle.word_sheet.specs.WordSheet.{WordSheetFor};
 ghost use Rattle.gateway.specs.Call.{Answers};
 
+use sheet::length_in;
+
 // The length of the sheet of a text within an allowance of rounds. Where the buffer is as long or longer, the sheet stands at its start and
 // nothing past it is changed; where it is shorter, nothing of it is changed.
 #[unsafe(no_mangle)]
 pub extern "C" fn hjaltropa_sheet(text: &[u8], allowance: u16, buffer: &mut [u8]) -> usize
     ensures { Answers SheetFor text.now allowance buffer.old result buffer.new }
 {
-    let written = sheet::write(text, allowance, buffer);
-    sheet::length_in(written)
+    length_in(sheet::write(text, allowance, buffer))
 }
 
 // The same for the reach sheet.
@@ -22,8 +23,7 @@ pub extern "C" fn hjaltropa_sheet(text: &[u8], allowance: u16, buffer: &mut [u8]
 pub extern "C" fn hjaltropa_reach(text: &[u8], allowance: u16, buffer: &mut [u8]) -> usize
     ensures { Answers ReachSheetFor text.now allowance buffer.old result buffer.new }
 {
-    let written = reach_sheet::write(text, allowance, buffer);
-    sheet::length_in(written)
+    length_in(reach_sheet::write(text, allowance, buffer))
 }
 
 // The same for the word sheet.
@@ -31,6 +31,5 @@ pub extern "C" fn hjaltropa_reach(text: &[u8], allowance: u16, buffer: &mut [u8]
 pub extern "C" fn hjaltropa_words(text: &[u8], allowance: u16, buffer: &mut [u8]) -> usize
     ensures { Answers WordSheetFor text.now allowance buffer.old result buffer.new }
 {
-    let written = word_sheet::write(text, allowance, buffer);
-    sheet::length_in(written)
+    length_in(word_sheet::write(text, allowance, buffer))
 }

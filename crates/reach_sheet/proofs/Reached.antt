@@ -1,11 +1,10 @@
--- The reach sheet: the turns of the loop that puts its lines, its length, and that a text has one, which is computed. Assumes nothing.
+-- The reach sheet: the loop that puts its lines, its length, and that a text has one, which is computed. Assumes nothing.
 use Prim.Native.Nat.{ℕ, zero, suc, ◌+◌, ◌-◌, ◌*◌, ◌/◌, ◌%◌, ◌<◌, ◌≤◌}
 use mathlib.Core.Bool.{Bool, true, false, cond}
 use mathlib.Core.Path.{◌≡◌, refl, sym, ap, subst, ◌∙◌}
 use mathlib.Core.List.{List, [], ◌∷◌, ◌++◌, append-nil}
-use mathlib.Core.Logic.{◌≢◌}
 use native.Mathlib.Omega.{arith}
-use borrow.Author.Tests.{eq-eqb, ne_eqb}
+use borrow.Author.Tests.{eq-eqb}
 use lib.Dec.{eqb}
 use lib.ListN.{length, get_or, replicate, length-append}
 use Rattle.limits.specs.Limits.{most_channels, level_sets}
@@ -20,7 +19,7 @@ use Rattle.reaching.specs.declared.Received.{Received}
 use Rattle.reaching.specs.Reach.{Reaches}
 use Rattle.reaching.proofs.Demands.{once as received_once}
 use Rattle.reaching.proofs.Computed.{computed as received_computed}
-use Rattle.sheet.specs.declared.Sheet.{Sheet}
+use Rattle.sheet.specs.declared.made.Sheet.{Sheet}
 use Rattle.sheet.specs.Sheet.{refusal_line}
 use Rattle.sheet.specs.Write.{longest_sheet, IsWhole}
 use Rattle.sheet.proofs.Writing.{OneSheet, OneWritten, OneWhole, one_written, one_whole, whole_put}
@@ -37,13 +36,6 @@ line_there s place channel e = simp e (append-nil (hex_line (0x23 ∷ place / mo
 pub line_none : (s : Set) (place channel : ℕ) → is_member s (place % most_channels) ≡ false → hex_lines (line_for s place channel) ≡ []
 unfolding hex_lines
 line_none s place channel e = simp e
-
--- it has room where any line of four bytes has
-pub line_room : (s : Set) (place channel : ℕ) (bytes : List ℕ) {buffer : List ℕ} {at : ℕ} → length bytes ≡ 4 → is_member s (place % most_channels) ≡ true
-    → Room buffer at (hex_lines (line_for s place channel)) → Room buffer at (hex_line bytes)
-line_room s place channel bytes four e room =
-    let line : List ℕ = 0x23 ∷ place / most_channels ∷ place % most_channels ∷ channel ∷ [] in
-    record { fits = omega (arith, room.fits, ap length (line_there s place channel e), line_length line, line_length bytes, four) }
 
 line_most : (s : Set) (place channel : ℕ) → length (hex_lines (line_for s place channel)) ≤ 9
 unfolding hex_lines
@@ -67,33 +59,31 @@ lines_most handles channels (suc left) place =
     let both = length-append (hex_lines (line_for set place channel)) (hex_lines rest) in
     omega (arith, line_most set place channel, lines_most handles channels left (place + 1))
 
--- ---- a turn of the loop
+-- ---- the loop that puts the lines
 
 module _ {before : List ℕ} {at : ℕ} {xs buffer : List ℕ} {next : ℕ} (handles : SetRow) (channels : List ℕ) (place : ℕ)
     (l : Left before at xs buffer next (hex_lines (reach_lines handles channels (level_sets - place) place))) where
-  module _ (set : Set) (e : set ≡ set_at handles (place / most_channels)) (h : place < level_sets) where
-    line : List ℕ
-    line = hex_lines (line_for set place (get_or channels place 0))
+  line : List (List ℕ)
+  line = line_for (set_at handles (place / most_channels)) place (get_or channels place 0)
 
-    rest : List ℕ
-    rest = hex_lines (reach_lines handles channels (level_sets - (place + 1)) (place + 1))
+  later : List (List ℕ)
+  later = reach_lines handles channels (level_sets - (place + 1)) (place + 1)
 
-    first_left : Left before at xs buffer next (line ++ rest)
-    unfolding line rest reach_lines
+  module _ (h : place < level_sets) where
+    first_left : Left before at xs buffer next (hex_lines line ++ hex_lines later)
+    unfolding line later reach_lines
     first_left =
-        let later = reach_lines handles channels (level_sets - (place + 1)) (place + 1) in
-        let channel = get_or channels place 0 in
         let count : level_sets - place ≡ suc (level_sets - (place + 1)) = omega arith in
-        let split = ap (λ n. hex_lines (reach_lines handles channels n place)) count ∙ lines_append (line_for (set_at handles (place / most_channels)) place channel) later in
-        subst (Left before at xs buffer next) (split ∙ ap (λ s. hex_lines (line_for s place channel) ++ hex_lines later) (sym e)) l
+        let split = ap (λ n. hex_lines (reach_lines handles channels n place)) count ∙ lines_append line later in
+        subst (Left before at xs buffer next) split l
 
-    pub place_room : Room before at xs → Room buffer next (hex_lines (line_for set place (get_or channels place 0)))
+    pub place_room : Room before at xs → Room buffer next (hex_lines (line_for (set_at handles (place / most_channels)) place (get_or channels place 0)))
     unfolding line
     place_room room = left_room_first _ _ room first_left
 
-    pub place_step : {after : List ℕ} {behind : ℕ} → Put buffer next (hex_lines (line_for set place (get_or channels place 0))) after behind
+    pub place_step : {after : List ℕ} {behind : ℕ} → Put buffer next (hex_lines (line_for (set_at handles (place / most_channels)) place (get_or channels place 0))) after behind
         → Left before at xs after behind (hex_lines (reach_lines handles channels (level_sets - (place + 1)) (place + 1)))
-    unfolding line rest
+    unfolding line later
     place_step p = left_put _ _ first_left p
 
   pub places_end : level_sets ≤ place → Put before at xs buffer next
@@ -106,9 +96,6 @@ module _ {before : List ℕ} {at : ℕ} {xs buffer : List ℕ} {next : ℕ} (han
 
 pub complete_is : (r : Received) → r.refusal.number ≡ 0 → reach_sheet_of r ≡ hex_lines (reach_lines r.handles r.channels level_sets 0) ++ text "reach complete\n"
 complete_is r e = simp (eq-eqb _ _ e)
-
-pub refused_is : (r : Received) → r.refusal.number ≢ 0 → reach_sheet_of r ≡ hex_line (refusal_line r.refusal) ++ text "refused\n"
-refused_is r n = simp (ne_eqb _ _ n)
 
 -- 2,319 bytes always suffice
 pub reach_most : (r : Received) → length (reach_sheet_of r) ≤ longest_reach

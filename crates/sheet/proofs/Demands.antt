@@ -17,9 +17,8 @@ use Rattle.judging.specs.declared.Verdict.TheVariants.{Unjudged}
 use Rattle.judging.specs.Judge.{VerdictBeside, Judges}
 use Rattle.judging.proofs.Verdicts.{verdict_once}
 use Rattle.judging.proofs.Demands.{once as answer_once}
-use Rattle.sheet.specs.declared.Written.{Written}
 use Rattle.sheet.specs.Sheet.{sheet_of, SheetFor}
-use Rattle.sheet.specs.Write.{values_of, Writes}
+use Rattle.sheet.specs.Write.{Written, values_of, Writes}
 use Rattle.sheet.specs.Demand.{refusal_of, Demand1}
 use Rattle.sheet.proofs.Writing.{OneWritten, OneWhole, one_written, one_whole}
 use Rattle.sheet.proofs.Sheets.{sheet_once}

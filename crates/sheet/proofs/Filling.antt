@@ -1,14 +1,15 @@
--- Rows of sets as lines: how long they are, by how many sets are not empty, and the turns of the loops over a row, by the sets from a place on.
+-- Rows of sets as lines: how long they are, by how many sets are not empty, and the loop that puts a row, by the sets from a place on.
 -- Assumes nothing.
-use Prim.Native.Nat.{ℕ, suc, ◌+◌, ◌*◌, ◌≤◌, ◌<◌}
-use mathlib.Core.Bool.{Bool, true, false, cond}
-use mathlib.Core.Path.{◌≡◌, sym, ap, subst, ◌∙◌}
+use Prim.Native.Nat.{ℕ, ◌+◌, ◌*◌, ◌≤◌, ◌<◌}
+use mathlib.Core.Bool.{Bool, true, false, cond, not}
+use mathlib.Core.Path.{◌≡◌, ap, subst, ◌∙◌}
 use mathlib.Core.List.{List, [], ◌∷◌, ◌++◌, append-nil}
 use native.Mathlib.Numerals.{add-one}
 use native.Mathlib.Omega.{arith}
 use native.Mathlib.Nat.{mul-add}
 use lib.ListN.{length, drop, length-append, drop_of_length-le}
 use lib.Seq.{drop-cons}
+use Rattle.std.proofs.lemmas.List.Sums.{sum_by-cons}
 use Rattle.sets.specs.Set.{Set, none, is_none, set_bytes}
 use Rattle.sets.specs.Rows.{SetRow, set_at}
 use Rattle.putting.specs.Characters.{hex_line, hex_lines}
@@ -17,32 +18,6 @@ use Rattle.putting.specs.Put.{Room, Put}
 use Rattle.sheet.specs.inner.Working.{filled_in}
 use Rattle.putting.proofs.Putting.{Left, left_none, left_put, left_room_first}
 use Rattle.putting.proofs.Characters.{line_length, lines_append}
-
--- ---- how many sets are not empty
-
--- from a place on
-filled_from : (row : SetRow) (i : ℕ) → i < length row → filled_in (drop i row) ≡ cond (is_none (set_at row i)) 0 1 + filled_in (drop (i + 1) row)
-unfolding filled_in
-filled_from row i h = rw (add-one, drop-cons row i none)
-
-pub filled_empty : (row : SetRow) (i : ℕ) → i < length row → is_none (set_at row i) ≡ true → filled_in (drop i row) ≡ filled_in (drop (i + 1) row)
-filled_empty row i h e = filled_from row i h ∙ simp e (omega arith)
-
-pub filled_more : (row : SetRow) (i : ℕ) → i < length row → is_none (set_at row i) ≡ false → filled_in (drop i row) ≡ 1 + filled_in (drop (i + 1) row)
-filled_more row i h n = filled_from row i h ∙ simp n
-
-pub filled_end : (row : SetRow) (i : ℕ) → length row ≤ i → filled_in (drop i row) ≡ 0
-unfolding filled_in
-filled_end row i h = rw (drop_of_length-le row h)
-
-pub filled_most : (row : SetRow) → filled_in row ≤ length row
-unfolding filled_in
-filled_most [] = omega arith
-filled_most (s ∷ ss) = go (is_none s) (filled_most ss)
-  where
-    go : (b : Bool) → filled_in ss ≤ length ss → cond b 0 1 + filled_in ss ≤ suc (length ss)
-    go true h = omega arith
-    go false h = omega arith
 
 -- ---- a row's lines
 
@@ -69,13 +44,13 @@ module _ (name : ℕ → List ℕ) where
   unfolding set_lines hex_lines
   lines_end row i h = rw (drop_of_length-le row h)
 
-  -- where every name has w bytes, each set that is not empty has a line of w + 4 bytes
-  module _ (w : ℕ) (named : (i : ℕ) → length (name i) ≡ w) where
-    line_size : (i s : ℕ) → length (hex_lines (set_line (name i) s)) ≡ (2 * w + 9) * cond (is_none s) 0 1
+  -- where every name makes a line of so many characters, each set that is not empty has one
+  module _ (size : ℕ) (named : (i : ℕ) → 2 * length (name i) + 9 ≡ size) where
+    line_size : (i s : ℕ) → length (hex_lines (set_line (name i) s)) ≡ size * cond (not (is_none s)) 1 0
     unfolding hex_lines
     line_size i s = go (is_none s)
       where
-        go : (b : Bool) → length (hex_lines (cond b [] ((name i ++ set_bytes s) ∷ []))) ≡ (2 * w + 9) * cond b 0 1
+        go : (b : Bool) → length (hex_lines (cond b [] ((name i ++ set_bytes s) ∷ []))) ≡ size * cond (not b) 1 0
         go true = omega arith
         go false =
             let line = line_length (name i ++ set_bytes s) in
@@ -83,34 +58,31 @@ module _ (name : ℕ → List ℕ) where
             let whole = length-append (hex_line (name i ++ set_bytes s)) [] in
             omega (arith, named i)
 
-    pub lines_size : (i : ℕ) (row : SetRow) → length (hex_lines (set_lines name i row)) ≡ (2 * w + 9) * filled_in row
-    unfolding set_lines hex_lines filled_in
+    pub lines_size : (i : ℕ) (row : SetRow) → length (hex_lines (set_lines name i row)) ≡ size * filled_in row
+    unfolding set_lines hex_lines
     lines_size i [] = omega arith
     lines_size i (s ∷ ss) =
-        let later = lines_size (i + 1) ss in
-        ap length (lines_append (set_line (name i) s) (set_lines name (i + 1) ss))
-        ∙ (length-append (hex_lines (set_line (name i) s)) (hex_lines (set_lines name (i + 1) ss))
-        ∙ (ap (λ n. n + length (hex_lines (set_lines name (i + 1) ss))) (line_size i s)
-        ∙ (ap (λ n. (2 * w + 9) * cond (is_none s) 0 1 + n) later
-        ∙ sym (mul-add (2 * w + 9) (cond (is_none s) 0 1) (filled_in ss)))))
+        let here = set_line (name i) s in
+        let later = set_lines name (i + 1) ss in
+        let one : ℕ = cond (not (is_none s)) 1 0 in
+        let count = sum_by-cons (λ (set : Set). cond (not (is_none set)) 1 0) s ss in
+        let counted : size * filled_in (s ∷ ss) ≡ size * one + size * filled_in ss = ap (λ n. size * n) count ∙ mul-add size one (filled_in ss) in
+        omega (arith, ap length (lines_append here later), length-append (hex_lines here) (hex_lines later), line_size i s, lines_size (i + 1) ss)
 
--- ---- a turn of the loop that puts a row
+-- ---- the loop that puts a row
 
 module _ {before : List ℕ} {at : ℕ} {xs buffer : List ℕ} {next : ℕ} (name : ℕ → List ℕ) (place : ℕ) (row : SetRow)
     (l : Left before at xs buffer next (hex_lines (set_lines name place (drop place row)))) where
   -- the set that stands at the place
-  module _ (set : Set) (e : set ≡ set_at row place) (h : place < length row) where
+  module _ (h : place < length row) where
     first_left : Left before at xs buffer next
-        (hex_lines (set_line (name place) set) ++ hex_lines (set_lines name (place + 1) (drop (place + 1) row)))
-    first_left =
-        let rest = hex_lines (set_lines name (place + 1) (drop (place + 1) row)) in
-        let lines = lines_from name row place h ∙ ap (λ s. hex_lines (set_line (name place) s) ++ rest) (sym e) in
-        subst (Left before at xs buffer next) lines l
+        (hex_lines (set_line (name place) (set_at row place)) ++ hex_lines (set_lines name (place + 1) (drop (place + 1) row)))
+    first_left = subst (Left before at xs buffer next) (lines_from name row place h) l
 
-    pub row_room : Room before at xs → Room buffer next (hex_lines (set_line (name place) set))
+    pub row_room : Room before at xs → Room buffer next (hex_lines (set_line (name place) (set_at row place)))
     row_room r = left_room_first _ _ r first_left
 
-    pub row_step : {after : List ℕ} {behind : ℕ} → Put buffer next (hex_lines (set_line (name place) set)) after behind
+    pub row_step : {after : List ℕ} {behind : ℕ} → Put buffer next (hex_lines (set_line (name place) (set_at row place))) after behind
         → Left before at xs after behind (hex_lines (set_lines name (place + 1) (drop (place + 1) row)))
     row_step p = left_put _ _ first_left p
 

@@ -3,28 +3,29 @@
 use Prim.Native.Nat.{ℕ, ◌+◌, ◌-◌, ◌<◌, ◌≤◌}
 use mathlib.Core.Path.{◌≡◌, refl, sym, ap, subst, ◌∙◌}
 use mathlib.Core.List.{List, [], ◌∷◌, ◌++◌, append-nil}
+use mathlib.Core.HLevel.{is_prop→PathP}
+use native.Mathlib.Bridge.{le_prop}
 use native.Mathlib.Decide.{dec_le}
 use native.Mathlib.Omega.{arith}
-use lib.ListN.{length, drop, take, get_or, replicate, length-append, length-replicate, drop_of_length-le}
-use lib.Seq.{sets-eq, length-take-le, take-append_seam}
+use lib.ListN.{length, drop, take, get_or, replicate, length-replicate, drop_of_length-le}
+use lib.Seq.{sets-eq, take-append_seam}
+use Rattle.std.specs.Prelude.{Ok, Err}
 use Rattle.lines.specs.Values.{padded}
 use Rattle.text.proofs.Lists.{drop_replicate}
 use Rattle.putting.specs.Put.{Put}
-use Rattle.sheet.specs.declared.Sheet.{Sheet}
-use Rattle.sheet.specs.declared.Written.{Written}
-use Rattle.sheet.specs.declared.Written.TheVariants.{Whole, TooShort}
-use Rattle.sheet.specs.Write.{values_of, length_in, Wrote, Writes, longest_sheet, Fills, IsWhole, Counted}
+use Rattle.sheet.specs.declared.made.Sheet.{Sheet}
+use Rattle.sheet.specs.Write.{Written, values_of, length_in, Wrote, Writes, longest_sheet, Fills, IsWhole}
 
 -- ---- the two ways of writing
 
-module _ (sheet before : List ℕ) (size : ℕ) (e : size ≡ length sheet) where
-  pub short_wrote : length before < size → Wrote sheet before (TooShort size) before
-  short_wrote l = record { longer = λ _. (ap (λ n. 15 ∷ n ∷ []) e, refl); otherwise = λ h. absurd (omega arith) }
+module _ {sheet before : List ℕ} where
+  pub short_wrote : {size : ℕ} → size ≡ length sheet → length before < size → Wrote sheet before (Err (record { needed = size })) before
+  short_wrote e l = record { longer = λ _. (ap (λ n. 15 ∷ n ∷ []) e, refl); otherwise = λ h. absurd (omega arith) }
 
-  pub whole_wrote : (after : List ℕ) (next : ℕ) → size ≤ length before → Put before 0 sheet after next → Wrote sheet before (Whole size) after
-  whole_wrote after next l p = record {
+  pub whole_wrote : {after : List ℕ} {next : ℕ} → length sheet ≤ length before → Put before 0 sheet after next → Wrote sheet before (Ok next) after
+  whole_wrote l p = record {
     longer = λ h. absurd (omega arith);
-    otherwise = λ h. (ap (λ n. 0 ∷ n ∷ []) e, p.stands ∙ (sets-eq sheet before 0 (omega arith) ∙ ap (λ n. sheet ++ drop n before) from));
+    otherwise = λ h. (ap (λ n. 0 ∷ n ∷ []) (p.behind ∙ from), p.stands ∙ (sets-eq sheet before 0 (omega arith) ∙ ap (λ n. sheet ++ drop n before) from));
   }
     where
       from : 0 + length sheet ≡ length sheet
@@ -33,10 +34,10 @@ module _ (sheet before : List ℕ) (size : ℕ) (e : size ≡ length sheet) wher
 -- ---- outcomes
 
 once_values : (w v : Written) → values_of w ≡ values_of v → w ≡ v
-once_values (Whole n) (Whole m) e = cc
-once_values (Whole n) (TooShort m) e = let z : ◌≡◌ {A = ℕ} 0 15 = cc in absurd (omega arith)
-once_values (TooShort n) (Whole m) e = let z : ◌≡◌ {A = ℕ} 15 0 = cc in absurd (omega arith)
-once_values (TooShort n) (TooShort m) e = cc
+once_values (Ok n) (Ok m) e = cc
+once_values (Ok n) (Err short) e = cc
+once_values (Err short) (Ok m) e = cc
+once_values (Err short) (Err other) e = let same : short.needed ≡ other.needed = cc in λ i. Err (record { needed = same i })
 
 -- of one sheet there is one outcome
 wrote_once : (s t before : List ℕ) (w v : Written) (after later : List ℕ) → s ≡ t → Wrote s before w after → Wrote t before v later
@@ -57,17 +58,17 @@ wrote_once s t before w v after later same a b = go (dec_le (length s) (length b
 
 module _ {sheet before : List ℕ} {returned : Written} {after : List ℕ} (w : Wrote sheet before returned after) where
   -- a buffer of exactly the sheet's length is enough, and holds just the sheet
-  pub exact : length before ≡ length sheet → (returned ≡ Whole (length sheet)) × (after ≡ sheet)
+  pub exact : length before ≡ length sheet → (returned ≡ Ok (length sheet)) × (after ≡ sheet)
   exact e =
       let p = w.otherwise (omega arith) in
       let past : drop (length sheet) before ≡ [] = drop_of_length-le before {i = length sheet} (omega arith) in
-      (once_values returned (Whole (length sheet)) p.0, p.1 ∙ (ap (λ l. sheet ++ l) past ∙ append-nil sheet))
+      (once_values returned (Ok (length sheet)) p.0, p.1 ∙ (ap (λ l. sheet ++ l) past ∙ append-nil sheet))
 
   -- one byte less is refused 15, and the buffer is unchanged
-  pub one_less : length before + 1 ≡ length sheet → (returned ≡ TooShort (length sheet)) × (after ≡ before)
+  pub one_less : length before + 1 ≡ length sheet → (returned ≡ Err (record { needed = length sheet })) × (after ≡ before)
   one_less e =
       let p = w.longer (omega arith) in
-      (once_values returned (TooShort (length sheet)) p.0, p.1)
+      (once_values returned (Err (record { needed = length sheet })) p.0, p.1)
 
   -- the length is returned in either outcome
   pub length_is : length_in returned ≡ length sheet
@@ -79,37 +80,23 @@ module _ {sheet before : List ℕ} {returned : Written} {after : List ℕ} (w : 
 
 -- ---- whole sheets
 
--- a blank array of 8,128 bytes, written to
-fills_is : (sheet : List ℕ) {returned : Written} (r : Sheet) → length sheet ≤ longest_sheet → Wrote sheet (replicate longest_sheet 0) returned r.bytes
-    → r.size ≡ length_in returned → Fills sheet r
-unfolding padded
-fills_is sheet {returned} r most w e =
-    let blank : List ℕ = replicate longest_sheet 0 in
-    let room : length sheet ≤ length blank = rw length-replicate most in
-    record {
-      size = e ∙ length_is w;
-      bytes = (w.otherwise room).1 ∙ ap (λ rest. sheet ++ rest) (drop_replicate (length sheet) longest_sheet 0);
-    }
-
-fills_once : (s t : List ℕ) (r q : Sheet) → s ≡ t → Fills s r → Fills t q → r ≡ q
-fills_once s t r q same a b = λ i. record {
-  bytes = (a.bytes ∙ (ap (padded longest_sheet 0) same ∙ sym b.bytes)) i;
-  size = (a.size ∙ (ap length same ∙ sym b.size)) i;
+-- two with the same bytes and size are equal
+pub same_sheet : (r q : Sheet) → r.bytes ≡ q.bytes → r.size ≡ q.size → r ≡ q
+same_sheet r q bytes size = λ i. record {
+  bytes = bytes i;
+  size = size i;
+  counted = is_prop→PathP (λ j. size j ≤ length (bytes j)) (λ j. le_prop) r.counted q.counted i;
 }
 
-module _ {sheet : List ℕ} {r : Sheet} (w : Fills sheet r) where
-  pub counted : Counted r
-  unfolding padded
-  counted =
-      let zeros : List ℕ = replicate (longest_sheet - length sheet) 0 in
-      let fits : r.size ≤ length r.bytes = omega (arith, w.size, ap length w.bytes, length-append sheet zeros) in
-      (fits, sym (length-take-le r.size r.bytes fits))
+fills_once : (s t : List ℕ) (r q : Sheet) → s ≡ t → Fills s r → Fills t q → r ≡ q
+fills_once s t r q same a b =
+    same_sheet r q (a.bytes ∙ (ap (padded longest_sheet 0) same ∙ sym b.bytes)) (a.size ∙ (ap length same ∙ sym b.size))
 
-  -- the front of the array is the sheet
-  front_is : take r.size r.bytes ≡ sheet
-  unfolding padded
-  front_is =
-      ap (λ n. take n r.bytes) w.size ∙ (ap (take (length sheet)) w.bytes ∙ take-append_seam sheet (replicate (longest_sheet - length sheet) 0))
+-- the front of the array is the sheet
+pub front_is : {sheet : List ℕ} {r : Sheet} → Fills sheet r → take r.size r.bytes ≡ sheet
+unfolding padded
+front_is {sheet} {r} w =
+    ap (λ n. take n r.bytes) w.size ∙ (ap (take (length sheet)) w.bytes ∙ take-append_seam sheet (replicate (longest_sheet - length sheet) 0))
 
 -- ---- the sheet that is meant
 
@@ -138,24 +125,16 @@ module _ (IsSheet : List ℕ → ℕ → List ℕ → Type 0) where
   one_whole one text allowance r q a b = fills_once a.sheet b.sheet r q (one text allowance _ _ a.of_text b.of_text) a.fills b.fills
 
 module _ {IsSheet : List ℕ → ℕ → List ℕ → Type 0} {text : List ℕ} {allowance : ℕ} where
-  -- written to a blank array, a sheet is whole
-  pub whole_is : {returned : Written} (r : Sheet) → ((sheet : List ℕ) → IsSheet text allowance sheet → length sheet ≤ longest_sheet)
-      → Writes IsSheet text allowance (replicate longest_sheet 0) returned r.bytes → r.size ≡ length_in returned → IsWhole IsSheet text allowance r
-  whole_is r most w e = record {
-    sheet = w.sheet;
-    of_text = w.of_text;
-    fills = fills_is w.sheet r (most w.sheet w.of_text) w.wrote e;
-  }
-
-  -- put into one, it is too
+  -- put into a blank array, a sheet is whole
   pub whole_put : (sheet : List ℕ) (r : Sheet) → length sheet ≤ longest_sheet → IsSheet text allowance sheet
       → Put (replicate longest_sheet 0) 0 sheet r.bytes r.size → IsWhole IsSheet text allowance r
+  unfolding padded
   whole_put sheet r most is p =
       let blank : List ℕ = replicate longest_sheet 0 in
-      let size : r.size ≡ length sheet = omega (arith, p.behind) in
-      let room : r.size ≤ length blank = rw length-replicate (omega (arith, size)) in
-      let wrote = whole_wrote sheet blank r.size size r.bytes r.size room p in
-      record { sheet = sheet; of_text = is; fills = fills_is sheet r most wrote refl }
+      let room : length sheet ≤ length blank = rw length-replicate most in
+      let wrote = (whole_wrote room p).otherwise room in
+      let zeros = ap (λ rest. sheet ++ rest) (drop_replicate (length sheet) longest_sheet 0) in
+      record { sheet = sheet; of_text = is; fills = record { size = omega (arith, p.behind); bytes = wrote.1 ∙ zeros } }
 
   -- copied to a buffer, a whole sheet is written there
   pub copied : {r : Sheet} {before after : List ℕ} {returned : Written} → IsWhole IsSheet text allowance r

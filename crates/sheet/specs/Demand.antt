@@ -9,9 +9,8 @@ use Rattle.solving.specs.Solve.{refused_by, over_allowance}
 use Rattle.judging.specs.declared.Answer.{Answer}
 use Rattle.judging.specs.declared.Verdict.TheVariants.{Unjudged}
 use Rattle.judging.specs.Judge.{Judges}
-use Rattle.sheet.specs.declared.Written.{Written}
 use Rattle.sheet.specs.Sheet.{sheet_of}
-use Rattle.sheet.specs.Write.{values_of}
+use Rattle.sheet.specs.Write.{Written, values_of}
 
 -- the answer of a refusal: all sets are empty, the count is 0, and there is no verdict
 abbrev pub refusal_of : Refusal → Answer

@@ -1,27 +1,42 @@
 // Writes the answer sheet of a plan's text to a lent buffer. The way of the data: a row's sets as lines, the whole answer, and here the
 // operation from text. The sheet's length is known first, so that a buffer that is too short is not touched;
-// then it is written once, from its start. Proved: the buffer holds the document's sheet and is otherwise as it was, or all of it is.
+// then it is written once, from its start. A whole sheet by itself is in made.rt. Proved: the buffer holds the document's sheet and is
+// otherwise as it was, or all of it is.
 #![tactic(auto)]
 
 ghost use Rattle.std.specs.Prelude.{◌≡◌, take};
 ghost use Rattle.sheet.specs.Sheet.{SheetFor};
-ghost use Rattle.sheet.specs.Write.{length_in, Wrote, Writes, IsWhole, Counted};
+ghost use Rattle.sheet.specs.Write.{length_in, Wrote, Writes, IsWhole};
 
 use crate::answers::{length_of, put_answer};
+use std::fmt;
+use std::fmt::Display;
 
 mod answers;
+mod made;
 mod rows;
 
 pub use answers::put_refusal;
+pub use made::{LONGEST, Sheet};
 
-// What writing a sheet returns.
-#[derive(Clone, Copy)]
-pub enum Written {
-    // The sheet is in the buffer: its length.
-    Whole(usize),
-    // The sheet is longer than the buffer: the length needed.
-    TooShort(usize),
+// Refusal 15: the buffer is shorter than the sheet, and the length needed.
+#[derive(Clone, Copy, Debug, PartialEq, Eq)]
+pub struct TooShort {
+    pub needed: usize,
 }
+
+impl Display for TooShort {
+    fn fmt<W: fmt::Write>(&self, f: &mut fmt::Formatter<W>) -> fmt::Result {
+        write!(
+            f,
+            "the buffer is too short: the sheet needs {} bytes",
+            self.needed
+        )
+    }
+}
+
+// What writing a sheet returns: the length of the sheet, which is in the buffer.
+pub type Written = Result<usize, TooShort>;
 
 // Writes the sheet of a text, within an allowance of rounds, from the buffer's start and changes nothing past it; a buffer that is too
 // short stays as it is.
@@ -31,20 +46,9 @@ pub fn write(text: &[u8], allowance: u16, buffer: &mut [u8]) -> Written
     let answer = judging::judge(text, allowance);
     let size = length_of(answer);
     if buffer.len() < size {
-        return Written::TooShort(size);
+        return Err(TooShort { needed: size });
     }
-    put_answer(buffer, answer);
-    Written::Whole(size)
-}
-
-// The bytes that suffice for every sheet.
-pub const LONGEST: usize = 8128;
-
-// A whole sheet: its bytes from the start, with zeros behind them, and how many they are.
-#[derive(Clone, Copy)]
-pub struct Sheet {
-    pub bytes: [u8; LONGEST],
-    pub size: usize,
+    Ok(put_answer(buffer, answer))
 }
 
 // The sheet's length, which writing it returns whether it fits or not.
@@ -52,34 +56,30 @@ pub fn length_in(written: Written) -> usize
     ensures { result ≡ length_in written }
 {
     match written {
-        Written::Whole(length) => length,
-        Written::TooShort(needed) => needed,
+        Ok(length) => length,
+        Err(TooShort { needed }) => needed,
     }
 }
 
 // The whole sheet of a text, within an allowance of rounds.
 pub fn whole(text: &[u8], allowance: u16) -> Sheet
-    ensures whole { IsWhole SheetFor text.now allowance result }
-    ensures counted { Counted result }
+    ensures { IsWhole SheetFor text.now allowance result }
 {
+    let answer = judging::judge(text, allowance);
     let mut bytes = [0u8; LONGEST];
-    let written = write(text, allowance, &mut bytes);
-    Sheet {
-        bytes,
-        size: length_in(written),
-    }
+    let size = put_answer(&mut bytes, answer);
+    Sheet { bytes, size }
 }
 
 // Writes a whole sheet, whichever it is, from the buffer's start and changes nothing past it; a buffer that is too short stays as it is.
 pub fn copy(made: Sheet, buffer: &mut [u8]) -> Written
-    requires { Counted made }
     ensures { Wrote (take made.size made.bytes) buffer.old result buffer.new }
 {
-    let bytes = made.bytes;
-    let length = made.size;
-    if buffer.len() < length {
-        return Written::TooShort(length);
+    let characters = made.characters();
+    if buffer.len() < characters.len() {
+        return Err(TooShort {
+            needed: characters.len(),
+        });
     }
-    putting::put_text(buffer, 0, &bytes[..length]);
-    Written::Whole(length)
+    Ok(putting::put_text(buffer, 0, characters))
 }
