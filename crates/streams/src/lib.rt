@@ -22,6 +22,7 @@ pub fn read_full<R: Read>(from: &mut R, buffer: &mut [u8]) -> io::Result<usize>
     ensures end { IfOk result (λ n. n < length buffer.new → IsAtEnd (R.remaining from.new)) }
 {
     let mut done = 0;
+    // A while: a turn fills as much as one read gives, and std's `read_exact` does not say how much came before the input's end.
     while done < buffer.len() {
         let more = from.read(&mut buffer[done..])?;
         if more == 0 {
