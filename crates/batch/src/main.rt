@@ -7,16 +7,9 @@ ghost use Rattle.std.specs.Prelude.{◌≡◌, length};
 ghost use Rattle.inputs.specs.Header.{longest_text};
 ghost use Rattle.sheet.specs.Write.{Counted};
 
-use inputs::Fault;
 use sheet::Sheet;
 use std::io;
 use std::io::{Input, Print, Read};
-
-// Says which record is none, and why; the run ends there.
-fn bad_record(rt: &impl Print, number: u64, reason: &str) -> io::Result<bool> {
-    println!(rt; "bad record {number}: {reason}")?;
-    Ok(false)
-}
 
 // Prints a sheet.
 fn print(rt: &impl Print, sheet: Sheet) -> io::Result<()>
@@ -35,23 +28,17 @@ fn answer_record(
     number: u64,
 ) -> io::Result<bool> {
     let had = streams::read_full(input, text)?;
-    let answer = inputs::of_record(line, &text[..had]);
-    let fault = answer.fault;
-    match fault {
-        Fault::None => {
+    match inputs::of_record(line, &text[..had]) {
+        Ok(answer) => {
             print(rt, answer.sheet)?;
             print(rt, answer.reach)?;
             print(rt, answer.words)?;
             Ok(true)
         }
-        Fault::CutShort => bad_record(rt, number, "it is cut short"),
-        Fault::NoHeader => bad_record(
-            rt,
-            number,
-            "its header is not sixteen digits of 0-9 a-f and a line feed",
-        ),
-        Fault::TextTooLong => bad_record(rt, number, "its length is over 65,536"),
-        Fault::AllowanceTooLarge => bad_record(rt, number, "its allowance is over 65,535"),
+        Err(fault) => {
+            println!(rt; "bad record {number}: {fault}")?;
+            Ok(false)
+        }
     }
 }
 
@@ -77,9 +64,11 @@ fn answer_next(
 fn main(rt: HostRuntime) -> io::Result<()> {
     let mut input = rt.reader();
     let mut room = streams::large_buffer();
-    let mut number: u64 = 1;
-    while number < u64::MAX && answer_next(&rt, &mut input, &mut room, number)? {
-        number += 1;
+    // A proved loop has to end, and nothing says that the input does: there are more numbers than any run takes.
+    for number in 1..u64::MAX {
+        if !answer_next(&rt, &mut input, &mut room, number)? {
+            break;
+        }
     }
     Ok(())
 }

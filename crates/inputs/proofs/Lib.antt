@@ -1,4 +1,2 @@
--- Laws of a record's header, and of what the programs answer.
-mod Numbers
-mod Headers
+-- What the programs answer.
 pub mod Answering

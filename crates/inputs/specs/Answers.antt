@@ -1,19 +1,18 @@
 -- What the programs answer: for a whole input, of which they keep the front, and for a record.
 -- Assumes nothing.
-use Rattle.std.specs.Prelude.{ℕ, ◌<◌, ◌≤◌, ◌≡◌, List, length, take, replicate}
+use Rattle.std.specs.Prelude.{ℕ, ◌<◌, ◌≤◌, ◌≡◌, List, length, take, Result, Ok, Err, IsOkAnd, codes}
 use Rattle.solving.specs.Rounds.{round_ceiling}
 use Rattle.sheet.specs.declared.Sheet.{Sheet}
 use Rattle.sheet.specs.Sheet.{SheetFor}
-use Rattle.sheet.specs.Write.{longest_sheet, IsWhole}
+use Rattle.sheet.specs.Write.{IsWhole}
 use Rattle.reach_sheet.specs.ReachSheet.{ReachSheetFor}
 use Rattle.word_sheet.specs.WordSheet.{WordSheetFor}
 use Rattle.inputs.specs.declared.Asked.{Asked}
 use Rattle.inputs.specs.declared.Asked.TheVariants.{Flow, Reach, Words}
 use Rattle.inputs.specs.declared.Fault.{Fault}
-use Rattle.inputs.specs.declared.Fault.TheVariants.{None, CutShort}
-use Rattle.inputs.specs.declared.Recorded.{Recorded}
+use Rattle.inputs.specs.declared.Fault.TheVariants.{CutShort, NoHeader, TextTooLong, AllowanceTooLarge}
+use Rattle.inputs.specs.declared.Sheets.{Sheets}
 use Rattle.inputs.specs.declared.header.Header.{Header}
-use Rattle.inputs.specs.declared.header.Header.TheVariants.{Faulty, Record}
 use Rattle.inputs.specs.Header.{header_of}
 
 -- ---- a whole input
@@ -34,26 +33,26 @@ AnswersInput asked front size r = (input : List ℕ) → take (length front) inp
 
 -- ---- a record
 
-abbrev pub no_sheet : Sheet
-no_sheet = record { bytes = replicate longest_sheet 0; size = 0 }
+-- what is said of a record that is none
+abbrev pub sentence_of : Fault → List ℕ
+sentence_of CutShort = codes "it is cut short"
+sentence_of NoHeader = codes "its header is not sixteen digits of 0-9 a-f and a line feed"
+sentence_of TextTooLong = codes "its length is over 65,536"
+sentence_of AllowanceTooLarge = codes "its allowance is over 65,535"
 
--- a record that is none
-abbrev pub no_record : Fault → Recorded
-no_record fault = record { fault = fault; sheet = no_sheet; reach = no_sheet; words = no_sheet }
-
--- one that has its three sheets
-pub record Answered (its : List ℕ) (allowance : ℕ) (r : Recorded) : Type 0 where
-  pub fault : r.fault ≡ None
+-- the three sheets of a text
+pub record Answered (its : List ℕ) (allowance : ℕ) (r : Sheets) : Type 0 where
   pub sheet : IsWhole SheetFor its allowance r.sheet
   pub reach : IsWhole ReachSheetFor its allowance r.reach
   pub words : IsWhole WordSheetFor its allowance r.words
 
 -- by what its header says, and as many bytes of its text as there were
-abbrev pub AnswersHeader : Header → List ℕ → Recorded → Type 0
-AnswersHeader (Faulty fault) text r = r ≡ no_record fault
-AnswersHeader (Record size allowance) text r =
-    (length text < size → r ≡ no_record CutShort) × (size ≤ length text → Answered (take size text) allowance r)
+abbrev pub AnswersHeader : Result Header Fault → List ℕ → Result Sheets Fault → Type 0
+AnswersHeader (Err fault) text r = r ≡ Err fault
+AnswersHeader (Ok header) text r =
+    (length text < header.size → r ≡ Err CutShort)
+    × (header.size ≤ length text → IsOkAnd r (Answered (take header.size text) header.allowance))
 
 -- by its header's line
-abbrev pub AnswersRecord : List ℕ → List ℕ → Recorded → Type 0
+abbrev pub AnswersRecord : List ℕ → List ℕ → Result Sheets Fault → Type 0
 AnswersRecord line = AnswersHeader (header_of line)

@@ -1,91 +1,62 @@
 // The header of a record: a line of sixteen hexadecimal digits, eight for the length of the record's text and eight for its allowance of rounds.
-ghost use Rattle.std.specs.Prelude.{◌≡◌, ◌≤◌, length};
-ghost use Rattle.inputs.specs.Header.{digit_value, number_from, header_for, header_of};
+ghost use Rattle.std.specs.Prelude.{◌≡◌, ◌<◌, ◌≤◌, length, IfSome, IfOk};
+ghost use Rattle.inputs.specs.Header.{digit_value, number_from, header_of, longest_text};
 
 use crate::Fault;
 
-// What a header says: how long the text is and how many rounds are allowed, or why it is none.
+// What a header says: how long the text is and how many rounds are allowed.
 #[derive(Clone, Copy)]
-pub(crate) enum Header {
-    Faulty(Fault),
-    Record(usize, u16),
+pub(crate) struct Header {
+    pub(crate) size: usize,
+    pub(crate) allowance: u16,
 }
 
-const LINE_FEED: u8 = 10;
-// No number of eight digits.
-const NO_NUMBER: u64 = 0x100000000;
 // The longest text of a record, in bytes.
-const LONGEST_TEXT: u64 = 65536;
-// The largest allowance.
-const MOST_ROUNDS: u64 = 65535;
+const LONGEST_TEXT: u32 = 65536;
 
-// A digit's value, and 16 for any other character.
-fn value(c: u8) -> u64
-    ensures { result ≡ digit_value c }
+// A digit's value, if the character is one.
+fn value(c: u8) -> Option<u32>
+    ensures value { result ≡ digit_value c }
+    ensures below { IfSome result (λ n. n < 16) }
 {
-    if c < 48 {
-        return 16;
+    match c {
+        b'0'..=b'9' => Some(u32::from(c - b'0')),
+        b'a'..=b'f' => Some(u32::from(c - b'a') + 10),
+        _ => None,
     }
-    if c <= 57 {
-        return (c - 48) as u64;
-    }
-    if c < 97 {
-        return 16;
-    }
-    if c <= 102 {
-        return (c - 87) as u64;
-    }
-    16
 }
 
-// The number that at most eight digits make, or no number if another character is among them.
-fn number(digits: &[u8]) -> u64
+// The number that at most eight digits make, if they are digits.
+fn number(digits: &[u8]) -> Option<u32>
     requires { length digits.now ≤ 8 }
     ensures { result ≡ number_from 0 digits.now }
 {
-    let mut n: u64 = 0;
-    let mut i = 0;
-    while i < digits.len() {
-        let digit = value(digits[i]);
-        if 16 <= digit {
-            return NO_NUMBER;
-        }
-        n = n * 16 + digit;
-        i += 1;
+    let mut n = 0;
+    for c in digits {
+        n = n * 16 + value(*c)?;
     }
-    n
+    Some(n)
 }
 
-// What two numbers say, if they are numbers and not too large.
-fn header_for(size: u64, allowance: u64) -> Header
-    ensures { result ≡ header_for size allowance }
-{
-    if size == NO_NUMBER {
-        return Header::Faulty(Fault::NoHeader);
-    }
-    if allowance == NO_NUMBER {
-        return Header::Faulty(Fault::NoHeader);
-    }
-    if LONGEST_TEXT < size {
-        return Header::Faulty(Fault::TextTooLong);
-    }
-    if MOST_ROUNDS < allowance {
-        return Header::Faulty(Fault::AllowanceTooLarge);
-    }
-    Header::Record(size as usize, allowance as u16)
-}
-
-// What a line says, if it is whole.
-pub(crate) fn header_of(line: &[u8]) -> Header
-    ensures { result ≡ header_of line.now }
+// What a header's line says, or why it is none.
+pub(crate) fn header_of(line: &[u8]) -> Result<Header, Fault>
+    ensures header { result ≡ header_of line.now }
+    ensures fits { IfOk result (λ header. header.size ≤ longest_text) }
 {
     if line.len() != 17 {
-        return Header::Faulty(Fault::CutShort);
+        return Err(Fault::CutShort);
     }
-    if line[16] != LINE_FEED {
-        return Header::Faulty(Fault::NoHeader);
+    if line[16] != b'\n' {
+        return Err(Fault::NoHeader);
     }
-    let size = number(&line[..8]);
-    let allowance = number(&line[8..16]);
-    header_for(size, allowance)
+    let size = number(&line[..8]).ok_or(Fault::NoHeader)?;
+    let allowance = number(&line[8..16]).ok_or(Fault::NoHeader)?;
+    if LONGEST_TEXT < size {
+        return Err(Fault::TextTooLong);
+    }
+    let allowance = u16::try_from(allowance).map_err(|_| Fault::AllowanceTooLarge)?;
+    Ok(Header {
+        size: size as usize,
+        allowance,
+    })
 }

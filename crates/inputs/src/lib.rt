@@ -3,40 +3,54 @@
 // three are those of its text at its allowance; and a record that is none is told why.
 #![tactic(auto)]
 
-ghost use Rattle.std.specs.Prelude.{◌≡◌, ◌<◌, ◌≤◌, length};
+ghost use Rattle.std.specs.Prelude.{◌≡◌, ◌<◌, ◌≤◌, length, Some, IfOk};
 ghost use Rattle.limits.specs.Limits.{longest};
 ghost use Rattle.sheet.specs.Write.{Counted};
 ghost use Rattle.inputs.specs.Header.{header_of, size_in, longest_text};
-ghost use Rattle.inputs.specs.Answers.{IsAsked, AnswersInput, AnswersRecord, AnswersHeader, no_record};
+ghost use Rattle.inputs.specs.Answers.{IsAsked, AnswersInput, sentence_of, AnswersRecord};
 
 use crate::header::{Header, header_of};
-use sheet::{LONGEST, Sheet};
+use sheet::Sheet;
+use std::fmt;
 
 mod header;
 
 // The bytes of an input that decide its sheet: one more than a text may have.
-pub const FRONT: usize = 16385;
+pub const FRONT: usize = limits::LONGEST + 1;
 
 // Why a record is none.
-#[derive(Clone, Copy)]
+#[derive(Clone, Copy, Debug, PartialEq, Eq)]
 pub enum Fault {
-    None,
     CutShort,
     NoHeader,
     TextTooLong,
     AllowanceTooLarge,
 }
 
-// What a record is answered: its sheet, its reach sheet and its word sheet, or what is wrong with it beside blank ones.
+// In a clause, as what is said of the record.
+impl fmt::Display for Fault {
+    ghost output = { λ fault. Some (sentence_of fault) };
+
+    fn fmt<W: fmt::Write>(&self, f: &mut fmt::Formatter<W>) -> fmt::Result {
+        f.write_str(match self {
+            Fault::CutShort => "it is cut short",
+            Fault::NoHeader => "its header is not sixteen digits of 0-9 a-f and a line feed",
+            Fault::TextTooLong => "its length is over 65,536",
+            Fault::AllowanceTooLarge => "its allowance is over 65,535",
+        })
+    }
+}
+
+// What a record is answered: its sheet, its reach sheet and its word sheet.
 #[derive(Clone, Copy)]
-pub struct Recorded {
-    pub fault: Fault,
+pub struct Sheets {
     pub sheet: Sheet,
     pub reach: Sheet,
     pub words: Sheet,
 }
 
 // Which sheet is asked for: the one with the verdict, the reach sheet, or the word sheet.
+// An enum and no closure: by its case the contract of `of_input` says which sheet is answered.
 #[derive(Clone, Copy)]
 pub enum Asked {
     Flow,
@@ -62,10 +76,7 @@ fn of_front(asked: Asked, front: &[u8], size: usize) -> Sheet
     ensures answers_input { AnswersInput asked front.now size result }
     ensures counted { Counted result }
 {
-    if front.len() < size {
-        return asked_of(asked, front, solving::CEILING);
-    }
-    asked_of(asked, &front[..size], solving::CEILING)
+    asked_of(asked, front.get(..size).unwrap_or(front), solving::CEILING)
 }
 
 // The sheet that is asked for of a whole input, with the most rounds that any plan takes, where `front` begins with as many bytes of the input
@@ -81,48 +92,19 @@ pub fn of_input(asked: Asked, front: [u8; FRONT], size: usize) -> Sheet
 pub fn text_size(line: &[u8]) -> usize
     ensures { (result ≡ size_in (header_of line.now)) × (result ≤ longest_text) }
 {
-    match header_of(line) {
-        Header::Faulty(_) => 0,
-        Header::Record(size, _) => size,
-    }
+    header_of(line).map_or(0, |header| header.size)
 }
 
-// What a record is answered that is none.
-fn none(fault: Fault) -> Recorded
-    ensures { result ≡ no_record fault }
-{
-    let bytes = [0u8; LONGEST];
-    Recorded {
-        fault,
-        sheet: Sheet { bytes, size: 0 },
-        reach: Sheet { bytes, size: 0 },
-        words: Sheet { bytes, size: 0 },
-    }
-}
-
-// What a record is answered whose header is good, by as many bytes of its text as there were.
-fn of_text(text: &[u8], size: usize, allowance: u16) -> Recorded
-    ensures answers_header { AnswersHeader (Header.Record size allowance) text.now result }
-    ensures counted { Counted result.sheet × Counted result.reach × Counted result.words }
-{
-    if text.len() < size {
-        return none(Fault::CutShort);
-    }
-    Recorded {
-        fault: Fault::None,
-        sheet: sheet::whole(&text[..size], allowance),
-        reach: reach_sheet::whole(&text[..size], allowance),
-        words: word_sheet::whole(&text[..size], allowance),
-    }
-}
-
-// What a record is answered, by its header's line and as many bytes of its text as there were.
-pub fn of_record(line: &[u8], text: &[u8]) -> Recorded
+// What a record is answered, by its header's line and as many bytes of its text as there were; or why it is none.
+pub fn of_record(line: &[u8], text: &[u8]) -> Result<Sheets, Fault>
     ensures answers_record { AnswersRecord line.now text.now result }
-    ensures counted { Counted result.sheet × Counted result.reach × Counted result.words }
+    ensures counted { IfOk result (λ r. Counted r.sheet × Counted r.reach × Counted r.words) }
 {
-    match header_of(line) {
-        Header::Faulty(fault) => none(fault),
-        Header::Record(size, allowance) => of_text(text, size, allowance),
-    }
+    let Header { size, allowance } = header_of(line)?;
+    let text = text.get(..size).ok_or(Fault::CutShort)?;
+    Ok(Sheets {
+        sheet: sheet::whole(text, allowance),
+        reach: reach_sheet::whole(text, allowance),
+        words: word_sheet::whole(text, allowance),
+    })
 }

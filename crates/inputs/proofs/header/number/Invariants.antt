@@ -1,12 +1,10 @@
--- `number`: what the digits so far make, with those from i on, is the whole. Assumes nothing.
-use Prim.Native.Nat.{◌-◌, ◌*◌, ◌<◌, ◌^◌}
-use mathlib.Core.Path.{◌≡◌}
-use lib.ListN.{length, drop}
+-- `number`: what the digits so far make, with those behind them, is the whole; and i digits make less than 16 to the i. Assumes nothing.
+use Rattle.std.proofs.Common.{◌≡◌, ◌<◌, ◌^◌, drop}
 use Rattle.inputs.specs.Header.{number_from}
 use Rattle.inputs.proofs.header.number.Given as goal
 
-abbrev pub invariant-loop-i : goal.invariant-loop-i
-invariant-loop-i l = (number_from 0 l.digits ≡ number_from l.n (drop l.i l.digits)) × (l.n < 2 ^ (4 * l.i))
-
-abbrev pub decreases-loop-i : goal.decreases-loop-i
-decreases-loop-i l = length l.digits - l.i
+abbrev pub invariant-loop-c : goal.invariant-loop-c
+invariant-loop-c l = record {
+  whole : number_from 0 l.digits ≡ number_from l.n (drop l.c-index l.digits);
+  below : l.n < 16 ^ l.c-index;
+}
