@@ -1,7 +1,7 @@
 -- The word sheet of a text within an allowance: it is put part by part, there is one only, which is computed, 114 bytes always suffice, and it is
 -- well-formed UTF-8. A breach goes back to the answer that judging gives, which lies within the head's limits, and a label to what reading promises.
 -- Assumes nothing.
-use Prim.Native.Nat.{ℕ, zero, suc, ◌+◌, ◌-◌, ◌/◌, ◌%◌, ◌<◌, ◌≤◌}
+use Prim.Native.Nat.{ℕ, ◌+◌, ◌-◌, ◌/◌, ◌%◌, ◌<◌, ◌≤◌}
 use mathlib.Core.Bool.{Bool, true, false, cond}
 use mathlib.Core.Path.{◌≡◌, refl, sym, ap, subst⁻¹, ◌∙◌}
 use mathlib.Core.List.{List, [], ◌∷◌, ◌++◌}
@@ -9,9 +9,11 @@ use mathlib.Core.Logic.{◌≢◌, ⊎_elim}
 use native.Mathlib.Decide.{dec_lt}
 use native.Mathlib.Omega.{arith}
 use borrow.Author.Tests.{lt-ltb}
-use lib.ListN.{length, take, get_or, replicate, length-append, length-replicate, get_or-append}
+use lib.ListN.{length, take, replicate, length-append}
 use lib.Seq.{take-append_seam}
 use Rattle.std.specs.Prelude.{Err, Ok}
+use Rattle.std.specs.List.{All, AllByRecursion as ByRecursion}
+use Rattle.std.proofs.lemmas.List.Elements.{All-from_recursion, All-nil, All-same}
 use Rattle.limits.specs.Limits.{most_channels, most_labels, longest_short}
 use Rattle.label_bytes.specs.Characters.{WellFormed}
 use Rattle.label_bytes.specs.Label.{IsLabel, shortened}
@@ -22,7 +24,6 @@ use Rattle.lines.specs.Labels.{channel_kind, level_kind, bytes_of_label, place_a
 use Rattle.lines.specs.Values.{padded, no_label}
 use Rattle.putting.specs.Characters.{text}
 use Rattle.putting.specs.Put.{Put}
-use Rattle.putting.proofs.Putting.{put_same}
 use Rattle.reading.specs.declared.Reading.{Reading}
 use Rattle.reading.specs.declared.Refusal.{Refusal}
 use Rattle.reading.specs.Plan.{Outcome, Plan, plan_in, no_head, reading_of}
@@ -44,41 +45,40 @@ use Rattle.sheet.specs.Write.{longest_sheet, IsWhole}
 use Rattle.sheet.proofs.Writing.{OneSheet, OneWritten, OneWhole, one_written, one_whole, whole_put}
 use Rattle.word_sheet.specs.WordSheet.{decimal, is_of, label_for, name_by, level_name, channel_name, breach_line, word_sheet_of, longest_words, labels_of, WordSheetFor}
 use Rattle.word_sheet.specs.inner.Compute.{word_sheet_for}
-use Rattle.word_sheet.specs.inner.Working.{Fits, Listed, TwoDigits, BreachTwoDigits, VerdictTwoDigits, PutName}
+use Rattle.word_sheet.specs.inner.Working.{HasBytes, TwoDigits, BreachTwoDigits, VerdictTwoDigits, PutName}
 use Rattle.word_sheet.proofs.Naming.{one_digit, two_digits, name_most, name_then}
 
 -- ---- the labels of a reading
 
--- those of a plan, in an array
-padded_listed : (h : Head) (least : ℕ) (before labels : List Label) → LabelsWithin h least before labels → length labels ≤ most_labels
-    → Listed (padded most_labels no_label labels) (length labels)
-unfolding padded
-padded_listed h least before labels within most = record {
-  sized = omega (arith, length-append labels (replicate (most_labels - length labels) no_label), length-replicate (most_labels - length labels) no_label);
-  counted = most;
-  fit = λ i d l. subst⁻¹ Fits (get_or-append labels (replicate (most_labels - length labels) no_label) d i l) (each least before labels within i d l);
-}
-  where
-    each : (least : ℕ) (before labels : List Label) → LabelsWithin h least before labels → (i : ℕ) (d : Label) → i < length labels → Fits (get_or labels i d)
-    each least before [] w i d l = absurd (omega arith)
-    each least before (label ∷ labels) w zero d l = omega (arith, w.0.most, w.0.array)
-    each least before (label ∷ labels) w (suc i) d l = each (place_among label.kind label.number + 1) _ labels w.2 i d (omega arith)
+-- each of a plan has bytes
+within_bytes : (h : Head) (least : ℕ) (before labels : List Label) → LabelsWithin h least before labels → ByRecursion HasBytes labels
+within_bytes h least before [] w = tt
+within_bytes h least before (label ∷ labels) w =
+    (record { some = w.0.some; most = w.0.most; array = w.0.array }, within_bytes h (place_among label.kind label.number + 1) _ labels w.2)
 
+-- those of a text, by what is read of it
 module _ (plan : List ℕ) (r : Reading) (e : r ≡ reading_of (plan_in plan)) where
-  pub read_listed : Listed r.labels r.labelled
-  read_listed = subst⁻¹ (λ s. Listed s.labels s.labelled) e (go (plan_in plan) (kept plan))
+  pub read_few : r.labelled ≤ most_labels
+  read_few = subst⁻¹ (λ s. s.labelled ≤ most_labels) e (go (plan_in plan) (kept plan))
     where
-      go : (o : Outcome Plan) → Kept o → Listed (reading_of o).labels (reading_of o).labelled
-      go (Err f) k = record { sized = refl; counted = omega arith; fit = λ i d l. absurd (omega arith) }
-      go (Ok p) k = padded_listed p.head 0 [] p.labels k.labels k.labelled
+      go : (o : Outcome Plan) → Kept o → (reading_of o).labelled ≤ most_labels
+      go (Err f) k = omega arith
+      go (Ok p) k = k.labelled
 
-  read_labels_lem : take r.labelled r.labels ≡ labels_of (plan_in plan)
+  pub read_labels_lem : take r.labelled r.labels ≡ labels_of (plan_in plan)
   unfolding padded
   read_labels_lem = ap (λ (s : Reading). take s.labelled s.labels) e ∙ go (plan_in plan)
     where
       go : (o : Outcome Plan) → take (reading_of o).labelled (reading_of o).labels ≡ labels_of o
       go (Err f) = refl
       go (Ok p) = take-append_seam p.labels (replicate (most_labels - length p.labels) no_label)
+
+  pub read_bytes : All HasBytes (take r.labelled r.labels)
+  read_bytes = All-same HasBytes _ _ read_labels_lem (go (plan_in plan) (kept plan))
+    where
+      go : (o : Outcome Plan) → Kept o → All HasBytes (labels_of o)
+      go (Err f) k = All-nil HasBytes
+      go (Ok p) k = All-from_recursion HasBytes p.labels (within_bytes p.head 0 [] p.labels k.labels)
 
 -- ---- the numbers of a breach
 
@@ -125,17 +125,6 @@ pub breach_put : (labels : List Label) (b : Breach) {before first second third f
     → PutName third handle (text ": ") (channel_name labels b.handle) fourth line → Put fourth line (text "\n") after end
     → Put before 0 (breach_line labels b) after end
 breach_put labels b p q r s t = name_then p (name_then q (name_then r (name_then s t)))
-
--- by a verdict that is told, and by the labels that were read
-module _ {v w : Verdict} (e : v ≡ w) {before after : List ℕ} {end : ℕ} where
-  pub told_put : (labels : List Label) → Put before 0 (word_sheet_of labels w) after end → Put before 0 (word_sheet_of labels v) after end
-  told_put labels p = put_same (ap (word_sheet_of labels) e) p
-
-  pub read_put : (plan : List ℕ) (r : Reading) → r ≡ reading_of (plan_in plan) → Put before 0 (word_sheet_of (take r.labelled r.labels) w) after end
-      → Put before 0 (word_sheet_of (labels_of (plan_in plan)) v) after end
-  read_put plan r got p =
-      let labels = labels_of (plan_in plan) in
-      told_put labels (put_same (ap (λ ls. word_sheet_of ls w) (sym (read_labels_lem plan r got))) p)
 
 module _ {plan : List ℕ} {allowance : ℕ} {a : Answer} (judged : Judges (plan_in plan) allowance a) where
   its_sheet : WordSheetFor plan allowance (word_sheet_of (labels_of (plan_in plan)) a.verdict)

@@ -3,20 +3,35 @@
 // the line is well-formed UTF-8.
 #![tactic(auto)]
 
-ghost use Rattle.std.specs.Prelude.{◌≡◌, ◌+◌, ◌≤◌, length, take};
+ghost use Rattle.std.specs.Prelude.{◌≡◌, ◌+◌, ◌≤◌, length, find, All, IfSome, option_copied};
 ghost use Rattle.putting.specs.Put.{Put};
-ghost use Rattle.lines.specs.Labels.{bytes_of_label};
 ghost use Rattle.reading.specs.Plan.{plan_in};
 ghost use Rattle.sheet.specs.Write.{Writes, IsWhole, Counted};
 ghost use Rattle.word_sheet.specs.WordSheet.{decimal, is_of, label_for, name_by, level_name, channel_name, breach_line, word_sheet_of, longest_words, labels_of, WordSheetFor};
-ghost use Rattle.word_sheet.specs.inner.Working.{Fits, Listed, TwoDigits, BreachTwoDigits, VerdictTwoDigits, longest_word, NameRoom, PutName};
+ghost use Rattle.word_sheet.specs.inner.Working.{HasBytes, TwoDigits, BreachTwoDigits, VerdictTwoDigits, longest_word, NameRoom, PutName};
 
 use judging::{Breach, Verdict};
-use limits::MOST_LABELS;
 use lines::Label;
-use lines::labels::{CHANNEL, LEVEL, no_label};
+use lines::labels::{CHANNEL, LEVEL};
 use putting::put_text;
 use sheet::{LONGEST, Sheet, Written};
+
+// A kind of thing that a breach names, and the word for one that has no label.
+#[derive(Clone, Copy)]
+struct Called {
+    kind: u8,
+    word: &'static [u8],
+}
+
+const LEVELS: Called = Called {
+    kind: LEVEL,
+    word: b"level ",
+};
+
+const CHANNELS: Called = Called {
+    kind: CHANNEL,
+    word: b"channel ",
+};
 
 // Puts a number below 100 in decimal.
 fn put_decimal(buffer: &mut [u8], at: usize, number: u8) -> usize
@@ -24,36 +39,20 @@ fn put_decimal(buffer: &mut [u8], at: usize, number: u8) -> usize
     ensures { Put buffer.old at (decimal number) buffer.new result }
 {
     if number < 10 {
-        return put_text(buffer, at, &[48 + number]);
+        return put_text(buffer, at, &[b'0' + number]);
     }
-    put_text(buffer, at, &[48 + number / 10, 48 + number % 10])
+    put_text(buffer, at, &[b'0' + number / 10, b'0' + number % 10])
 }
 
-// Whether a label is that of a thing.
-fn is_of(label: Label, kind: u8, number: u8) -> bool
-    ensures { result ≡ is_of kind number label }
+// The label of a thing, where it has one.
+fn label_for(labels: &[Label], kind: u8, number: u8) -> Option<&Label>
+    requires { All HasBytes labels.now }
+    ensures found { option_copied result ≡ find (is_of kind number) labels.now }
+    ensures has_bytes { IfSome (option_copied result) HasBytes }
 {
-    if label.kind != kind {
-        return false;
-    }
-    label.number == number
-}
-
-// The label of a thing among the first `count`, and a blank one where it has none.
-fn label_for(labels: [Label; MOST_LABELS], count: usize, kind: u8, number: u8) -> Label
-    requires { Listed labels count }
-    ensures result_value { bytes_of_label result ≡ label_for kind number (take count labels) }
-    ensures fits { Fits result }
-{
-    let mut i = 0;
-    while i < count {
-        let label = labels[i];
-        if is_of(label, kind, number) {
-            return label;
-        }
-        i += 1;
-    }
-    no_label()
+    labels
+        .iter()
+        .find(|label| label.kind == kind && label.number == number)
 }
 
 // Puts characters, and behind them what a thing is called: its label, shortened, or its word and its number.
@@ -61,73 +60,41 @@ fn put_name(
     buffer: &mut [u8],
     at: usize,
     front: &[u8],
-    label: Label,
-    word: &[u8],
+    labels: &[Label],
+    called: Called,
     number: u8,
 ) -> usize
-    requires { TwoDigits number × Fits label × (length word.now ≤ longest_word) × NameRoom buffer.old at front.now }
-    ensures { PutName buffer.old at front.now (name_by word.now number (bytes_of_label label)) buffer.new result }
+    requires { TwoDigits number × All HasBytes labels.now × (length called.word.now ≤ longest_word) × NameRoom buffer.old at front.now }
+    ensures { PutName buffer.old at front.now (name_by called.word.now number (label_for called.kind number labels.now)) buffer.new result }
 {
     let next = put_text(buffer, at, front);
-    let size = label.size;
-    if size == 0 {
-        let said = put_text(buffer, next, word);
-        return put_decimal(buffer, said, number);
+    match label_for(labels, called.kind, number) {
+        Some(label) => put_text(
+            buffer,
+            next,
+            label_bytes::shortened(&label.bytes[..label.size]),
+        ),
+        None => {
+            let said = put_text(buffer, next, called.word);
+            put_decimal(buffer, said, number)
+        }
     }
-    let bytes = label.bytes;
-    put_text(buffer, next, label_bytes::shortened(&bytes[..size]))
-}
-
-// Puts characters, and behind them what a level is called.
-fn put_level(
-    buffer: &mut [u8],
-    at: usize,
-    front: &[u8],
-    labels: [Label; MOST_LABELS],
-    count: usize,
-    level: u8,
-) -> usize
-    requires { TwoDigits level × Listed labels count × NameRoom buffer.old at front.now }
-    ensures { PutName buffer.old at front.now (level_name (take count labels) level) buffer.new result }
-{
-    let label = label_for(labels, count, LEVEL, level);
-    put_name(buffer, at, front, label, b"level ", level)
-}
-
-// Puts characters, and behind them what a channel is called.
-fn put_channel(
-    buffer: &mut [u8],
-    at: usize,
-    front: &[u8],
-    labels: [Label; MOST_LABELS],
-    count: usize,
-    channel: u8,
-) -> usize
-    requires { TwoDigits channel × Listed labels count × NameRoom buffer.old at front.now }
-    ensures { PutName buffer.old at front.now (channel_name (take count labels) channel) buffer.new result }
-{
-    let label = label_for(labels, count, CHANNEL, channel);
-    put_name(buffer, at, front, label, b"channel ", channel)
 }
 
 // Puts the line of a breach at the buffer's start.
-fn put_breach(
-    buffer: &mut [u8],
-    labels: [Label; MOST_LABELS],
-    count: usize,
-    breach: Breach,
-) -> usize
-    requires { BreachTwoDigits breach × Listed labels count × (longest_words ≤ length buffer.old) }
-    ensures { Put buffer.old 0 (breach_line (take count labels) breach) buffer.new result }
+fn put_breach(buffer: &mut [u8], labels: &[Label], breach: Breach) -> usize
+    requires { BreachTwoDigits breach × All HasBytes labels.now × (longest_words ≤ length buffer.old) }
+    ensures { Put buffer.old 0 (breach_line labels.now breach) buffer.new result }
 {
-    let higher = put_level(buffer, 0, b"breach ", labels, count, breach.higher);
-    let lower = put_level(buffer, higher, b" to ", labels, count, breach.lower);
-    let channel = put_channel(buffer, lower, b" on ", labels, count, breach.channel);
-    let handle = put_channel(buffer, channel, b": ", labels, count, breach.handle);
+    let higher = put_name(buffer, 0, b"breach ", labels, LEVELS, breach.higher);
+    let lower = put_name(buffer, higher, b" to ", labels, LEVELS, breach.lower);
+    let channel = put_name(buffer, lower, b" on ", labels, CHANNELS, breach.channel);
+    let handle = put_name(buffer, channel, b": ", labels, CHANNELS, breach.handle);
     put_text(buffer, handle, b"\n")
 }
 
 // Puts the word sheet at the buffer's start, by the verdict on the text; a breach is told by the text's labels.
+#[tactic(auto, using(crate::proofs::Words::read_few))]
 fn put_words(buffer: &mut [u8], text: &[u8], verdict: Verdict) -> usize
     requires { VerdictTwoDigits verdict × (longest_words ≤ length buffer.old) }
     ensures { Put buffer.old 0 (word_sheet_of (labels_of (plan_in text.now)) verdict) buffer.new result }
@@ -137,8 +104,7 @@ fn put_words(buffer: &mut [u8], text: &[u8], verdict: Verdict) -> usize
         Verdict::Yes => put_text(buffer, 0, b"clear\n"),
         Verdict::No(breach) => {
             let reading = reading::read(text);
-            let labels = reading.labels;
-            put_breach(buffer, labels, reading.labelled, breach)
+            put_breach(buffer, &reading.labels[..reading.labelled], breach)
         }
     }
 }
@@ -149,9 +115,8 @@ pub fn whole(text: &[u8], allowance: u16) -> Sheet
     ensures counted { Counted result }
 {
     let answer = judging::judge(text, allowance);
-    let verdict = answer.verdict;
-    let mut bytes = [0u8; LONGEST];
-    let size = put_words(&mut bytes, text, verdict);
+    let mut bytes = [0; LONGEST];
+    let size = put_words(&mut bytes, text, answer.verdict);
     Sheet { bytes, size }
 }
 
@@ -160,6 +125,5 @@ pub fn whole(text: &[u8], allowance: u16) -> Sheet
 pub fn write(text: &[u8], allowance: u16, buffer: &mut [u8]) -> Written
     ensures { Writes WordSheetFor text.now allowance buffer.old result buffer.new }
 {
-    let made = whole(text, allowance);
-    sheet::copy(made, buffer)
+    sheet::copy(whole(text, allowance), buffer)
 }

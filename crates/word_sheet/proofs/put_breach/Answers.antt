@@ -4,5 +4,5 @@ use Rattle.word_sheet.proofs.put_breach.Goals as goal
 
 pub returns : goal.returns
 returns c =
-    breach_put _ c.args.breach c.put_level-higher.ensures c.put_level-lower.ensures c.put_channel-channel.ensures
-    c.put_channel-handle.ensures c.put_text.ensures
+    breach_put _ c.args.breach c.put_name-higher.ensures c.put_name-lower.ensures c.put_name-channel.ensures c.put_name-handle.ensures
+    c.put_text.ensures

@@ -1,25 +1,12 @@
--- `put_name`: the characters in front, and behind them the word and the number, or the label, shortened. Assumes nothing.
-use mathlib.Core.Path.{sym}
-use native.Mathlib.Omega.{arith}
-use lib.Seq.{length-take-le}
-use Rattle.word_sheet.proofs.Naming.{named_by_number, named_by_label, short_most}
+-- `put_name`: the characters in front, and behind them the label that is found, shortened, or the word and the number. Assumes nothing.
+use Rattle.word_sheet.proofs.Naming.{named_by_label, named_by_number}
 use Rattle.word_sheet.proofs.put_name.Goals as goal
 
-pub returns-then-size-eq0 : goal.returns-then-size-eq0
-returns-then-size-eq0 c =
-    named_by_number _ _ c.args.label c.requires.0 c.requires.2 c.put_text-next.ensures c.if-size-eq0.true c.put_text-said.ensures
-    c.put_decimal.ensures
+pub returns-in-Some : goal.returns-in-Some
+returns-in-Some c =
+    let label = c.in-Some.ensures in
+    named_by_label _ _ _ _ c.requires.0 c.requires.2 c.put_text-next.ensures label.has_bytes label.found c.shortened.ensures c.put_text.ensures
 
-pub slice_bounds-shortened-end : goal.slice_bounds-shortened-end
-slice_bounds-shortened-end c =
-    sym (length-take-le _ _ c.requires.1)
-
-pub put_text-requires : goal.put_text-requires
-put_text-requires c =
-    let put = c.put_text-next.ensures in
-    record { fits = omega (arith, short_most _ _ c.shortened.ensures, c.requires.3.fits, put.behind, put.size) }
-
-pub returns : goal.returns
-returns c =
-    named_by_label _ _ c.args.label c.requires.0 c.requires.2 c.put_text-next.ensures c.requires.1 c.if-size-eq0.false
-    c.shortened.ensures c.put_text.ensures
+pub returns-in-None : goal.returns-in-None
+returns-in-None c =
+    named_by_number _ _ _ _ c.requires.0 c.requires.2 c.put_text-next.ensures c.in-None.ensures.found c.put_text-said.ensures c.put_decimal.ensures

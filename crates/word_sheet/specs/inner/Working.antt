@@ -1,7 +1,7 @@
--- For the contracts of the code's inner functions alone: labels in an array, numbers of two digits, and a name that is put behind other characters.
+-- For the contracts of the code's inner functions alone: labels that have bytes, numbers of two digits, and a name that is put behind other characters.
 -- Assumes nothing.
-use Rattle.std.specs.Prelude.{ℕ, ◌+◌, ◌<◌, ◌≤◌, ◌≡◌, List, ◌++◌, length, get_or}
-use Rattle.limits.specs.Limits.{most_labels, longest_short}
+use Rattle.std.specs.Prelude.{ℕ, ◌+◌, ◌<◌, ◌≤◌, ◌≡◌, List, ◌++◌, length}
+use Rattle.limits.specs.Limits.{longest_label, longest_short}
 use Rattle.lines.specs.declared.label.Label.{Label}
 use Rattle.putting.specs.Put.{Put}
 use Rattle.judging.specs.declared.Breach.{Breach}
@@ -10,15 +10,11 @@ use Rattle.judging.specs.declared.Verdict.TheVariants.{Unjudged, Yes, No}
 
 -- ---- labels
 
--- the bytes of a label stand in its array
-abbrev pub Fits : Label → Type 0
-Fits label = label.size ≤ length label.bytes
-
--- an array of labels, of which the first `count` are used
-pub record Listed (labels : List Label) (count : ℕ) : Type 0 where
-  pub sized : length labels ≡ most_labels
-  pub counted : count ≤ most_labels
-  pub fit : (i : ℕ) (d : Label) → i < count → Fits (get_or labels i d)
+-- a label has bytes, and they stand in its array
+pub record HasBytes (label : Label) : Type 0 where
+  pub some : 1 ≤ label.size
+  pub most : label.size ≤ longest_label
+  pub array : length label.bytes ≡ longest_label
 
 -- ---- numbers
 
