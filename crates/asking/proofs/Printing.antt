@@ -1,21 +1,15 @@
 -- What is printed is the sheet of the whole input: the front that was kept is all that decides it, and the front part of the array that is
 -- written is the sheet. Assumes nothing.
-use Rattle.std.proofs.Common.{◌≡◌, ℕ, ◌<◌, ◌≤◌, List, ◌++◌, [], arith, length, take, ap, ap₂, ◌∙◌, subst, append-nil, length-take-le, take_all}
+use Rattle.std.proofs.Common.{◌≡◌, ℕ, ◌<◌, ◌≤◌, List, ◌++◌, [], arith, length, take, ap, ◌∙◌, subst, append-nil, length-take-le, take_all}
 use Rattle.std.specs.Prelude.{Option, None, Some, Result, Ok, Err, OnOk}
 use Rattle.std.specs.Io.KnownBytes.{Consumes, Appends, IsAtEnd}
 use Rattle.std.proofs.Math.Seq.{take-append_seam}
 use Rattle.std.proofs.Math.Decide.{dec_lt}
-use Rattle.lines.specs.Values.{padded}
-use Rattle.sheet.specs.declared.Sheet.{Sheet}
-use Rattle.sheet.specs.Write.{Fills}
+use Rattle.sheet.specs.declared.made.Sheet.{Sheet}
+use Rattle.sheet.proofs.Writing.{front_is}
 use Rattle.inputs.specs.declared.Asked.{Asked}
 use Rattle.inputs.specs.Answers.{AnswersInput}
 use Rattle.asking.specs.Prints.{PrintsSheet}
-
--- the front part of a sheet's array, of the sheet's size, is the sheet
-written : (sheet : List ℕ) (r : Sheet) → Fills sheet r → take r.size r.bytes ≡ sheet
-unfolding padded
-written sheet r fills = ap₂ take fills.size fills.bytes ∙ take-append_seam sheet _
 
 -- what is kept is the front of what was read, whether or not more is left
 front_of : (front rest : List ℕ) (size : ℕ) → size ≤ length front → (size < length front → rest ≡ [])
@@ -34,15 +28,15 @@ front_of front rest size within end = go (dec_lt size (length front))
         let same : length front ≡ length kept = omega (arith, long) in
         ap (λ k. take k (kept ++ rest)) same ∙ take-append_seam kept rest
 
-pub prints : (asked : Asked) (known left before after : Option (List ℕ)) (front : List ℕ) (size : ℕ) (r : Sheet)
+pub prints : (asked : Asked) (known left before after : Option (List ℕ)) (front : List ℕ) (size : ℕ) (r : Sheet) {characters : List ℕ}
     → size ≤ length front → Consumes known left (take size front) → (size < length front → IsAtEnd left)
-    → AnswersInput asked front size r → Appends before after (take r.size r.bytes)
+    → AnswersInput asked front size r → characters ≡ take r.size r.bytes → Appends before after characters
     → PrintsSheet asked known before after
-prints asked None left before after front size r within consumed end answers appended = tt
-prints asked (Some input) None before after front size r within consumed end answers appended = absurd consumed
-prints asked (Some input) (Some rest) before after front size r within consumed end answers appended =
+prints asked None left before after front size r within consumed end answers same appended = tt
+prints asked (Some input) None before after front size r within consumed end answers same appended = absurd consumed
+prints asked (Some input) (Some rest) before after front size r within consumed end answers same appended =
     let whole = answers input (ap (take (length front)) consumed ∙ front_of front rest size within end) in
-    record { sheet = whole.sheet; of_input = whole.of_text; printed = subst (Appends before after) (written whole.sheet r whole.fills) appended }
+    record { sheet = whole.sheet; of_input = whole.of_text; printed = subst (Appends before after) (same ∙ front_is whole.fills) appended }
 
 -- what holds if a call returns Ok gives what does
 pub on_ok : {T E : Type 0} (result : Result T E) {P Q : Type 0} → (P → Q) → OnOk result P → OnOk result Q

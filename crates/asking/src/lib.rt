@@ -17,8 +17,7 @@ pub fn answer_to<R: Read, W: Write>(from: &mut R, to: &mut W, asked: Asked) -> i
     let size = streams::read_full(from, &mut front)?;
     io::copy(from, &mut io::sink())?;
     let answer = inputs::of_input(asked, front, size);
-    let bytes = answer.bytes;
-    to.write_all(&bytes[..answer.size])
+    to.write_all(answer.characters())
 }
 
 // Prints the sheet that is asked for, of the text on standard input.

@@ -5,18 +5,14 @@
 
 ghost use Rattle.std.specs.Prelude.{◌≡◌, length};
 ghost use Rattle.inputs.specs.Header.{longest_text};
-ghost use Rattle.sheet.specs.Write.{Counted};
 
 use sheet::Sheet;
 use std::io;
 use std::io::{Input, Print, Read};
 
 // Prints a sheet.
-fn print(rt: &impl Print, sheet: Sheet) -> io::Result<()>
-    requires { Counted sheet }
-{
-    let bytes = sheet.bytes;
-    rt.write_all(&bytes[..sheet.size])
+fn print(rt: &impl Print, sheet: Sheet) -> io::Result<()> {
+    rt.write_all(sheet.characters())
 }
 
 // Reads a record's text and prints its sheets, or why it is no record; says whether to go on.

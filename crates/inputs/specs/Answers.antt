@@ -2,7 +2,7 @@
 -- Assumes nothing.
 use Rattle.std.specs.Prelude.{ℕ, ◌<◌, ◌≤◌, ◌≡◌, List, length, take, Result, Ok, Err, IsOkAnd, codes}
 use Rattle.solving.specs.Rounds.{round_ceiling}
-use Rattle.sheet.specs.declared.Sheet.{Sheet}
+use Rattle.sheet.specs.declared.made.Sheet.{Sheet}
 use Rattle.sheet.specs.Sheet.{SheetFor}
 use Rattle.sheet.specs.Write.{IsWhole}
 use Rattle.reach_sheet.specs.ReachSheet.{ReachSheetFor}

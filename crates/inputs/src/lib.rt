@@ -3,9 +3,8 @@
 // three are those of its text at its allowance; and a record that is none is told why.
 #![tactic(auto)]
 
-ghost use Rattle.std.specs.Prelude.{◌≡◌, ◌<◌, ◌≤◌, length, Some, IfOk};
+ghost use Rattle.std.specs.Prelude.{◌≡◌, ◌<◌, ◌≤◌, length, Some};
 ghost use Rattle.limits.specs.Limits.{longest};
-ghost use Rattle.sheet.specs.Write.{Counted};
 ghost use Rattle.inputs.specs.Header.{header_of, size_in, longest_text};
 ghost use Rattle.inputs.specs.Answers.{IsAsked, AnswersInput, sentence_of, AnswersRecord};
 
@@ -60,8 +59,7 @@ pub enum Asked {
 
 // The sheet of a text that is asked for, within an allowance of rounds.
 fn asked_of(asked: Asked, text: &[u8], allowance: u16) -> Sheet
-    ensures asked { IsAsked asked text.now allowance result }
-    ensures counted { Counted result }
+    ensures { IsAsked asked text.now allowance result }
 {
     match asked {
         Asked::Flow => sheet::whole(text, allowance),
@@ -73,8 +71,7 @@ fn asked_of(asked: Asked, text: &[u8], allowance: u16) -> Sheet
 // The sheet of a whole input of which the front is lent, with room for more than the longest text.
 fn of_front(asked: Asked, front: &[u8], size: usize) -> Sheet
     requires { longest < length front.now }
-    ensures answers_input { AnswersInput asked front.now size result }
-    ensures counted { Counted result }
+    ensures { AnswersInput asked front.now size result }
 {
     asked_of(asked, front.get(..size).unwrap_or(front), solving::CEILING)
 }
@@ -82,8 +79,7 @@ fn of_front(asked: Asked, front: &[u8], size: usize) -> Sheet
 // The sheet that is asked for of a whole input, with the most rounds that any plan takes, where `front` begins with as many bytes of the input
 // as it can hold, and these are `size`.
 pub fn of_input(asked: Asked, front: [u8; FRONT], size: usize) -> Sheet
-    ensures answers_input { AnswersInput asked front size result }
-    ensures counted { Counted result }
+    ensures { AnswersInput asked front size result }
 {
     of_front(asked, &front, size)
 }
@@ -97,8 +93,7 @@ pub fn text_size(line: &[u8]) -> usize
 
 // What a record is answered, by its header's line and as many bytes of its text as there were; or why it is none.
 pub fn of_record(line: &[u8], text: &[u8]) -> Result<Sheets, Fault>
-    ensures answers_record { AnswersRecord line.now text.now result }
-    ensures counted { IfOk result (λ r. Counted r.sheet × Counted r.reach × Counted r.words) }
+    ensures { AnswersRecord line.now text.now result }
 {
     let Header { size, allowance } = header_of(line)?;
     let text = text.get(..size).ok_or(Fault::CutShort)?;

@@ -39,7 +39,7 @@ use Rattle.judging.specs.declared.Verdict.TheVariants.{Unjudged, Yes, No}
 use Rattle.judging.specs.Verdict.{IsBreach}
 use Rattle.judging.specs.Judge.{VerdictBeside, Judges}
 use Rattle.judging.proofs.Demands.{once as answer_once, computed as answer_computed}
-use Rattle.sheet.specs.declared.Sheet.{Sheet}
+use Rattle.sheet.specs.declared.made.Sheet.{Sheet}
 use Rattle.sheet.specs.Sheet.{SheetFor, sheet_of}
 use Rattle.sheet.specs.Write.{longest_sheet, IsWhole}
 use Rattle.sheet.proofs.Writing.{OneSheet, OneWritten, OneWhole, one_written, one_whole, whole_put}
@@ -127,7 +127,7 @@ pub breach_put : (labels : List Label) (b : Breach) {before first second third f
 breach_put labels b p q r s t = name_then p (name_then q (name_then r (name_then s t)))
 
 module _ {plan : List ℕ} {allowance : ℕ} {a : Answer} (judged : Judges (plan_in plan) allowance a) where
-  its_sheet : WordSheetFor plan allowance (word_sheet_of (labels_of (plan_in plan)) a.verdict)
+  pub its_sheet : WordSheetFor plan allowance (word_sheet_of (labels_of (plan_in plan)) a.verdict)
   its_sheet = record { answer = a; judged = judged; is = refl }
 
 -- a text has one word sheet within an allowance

@@ -6,7 +6,7 @@
 ghost use Rattle.std.specs.Prelude.{◌≡◌, ◌+◌, ◌≤◌, length, find, All, IfSome, option_copied};
 ghost use Rattle.putting.specs.Put.{Put};
 ghost use Rattle.reading.specs.Plan.{plan_in};
-ghost use Rattle.sheet.specs.Write.{Writes, IsWhole, Counted};
+ghost use Rattle.sheet.specs.Write.{Writes, IsWhole};
 ghost use Rattle.word_sheet.specs.WordSheet.{decimal, is_of, label_for, name_by, level_name, channel_name, breach_line, word_sheet_of, longest_words, labels_of, WordSheetFor};
 ghost use Rattle.word_sheet.specs.inner.Working.{HasBytes, TwoDigits, BreachTwoDigits, VerdictTwoDigits, longest_word, NameRoom, PutName};
 
@@ -111,8 +111,7 @@ fn put_words(buffer: &mut [u8], text: &[u8], verdict: Verdict) -> usize
 
 // The whole word sheet of a text, within an allowance of rounds.
 pub fn whole(text: &[u8], allowance: u16) -> Sheet
-    ensures whole { IsWhole WordSheetFor text.now allowance result }
-    ensures counted { Counted result }
+    ensures { IsWhole WordSheetFor text.now allowance result }
 {
     let answer = judging::judge(text, allowance);
     let mut bytes = [0; LONGEST];

@@ -5,5 +5,5 @@ use Rattle.asking.proofs.answer_to.Goals as goal
 pub returns-clause-prints : goal.returns-clause-prints
 returns-clause-prints g c =
     let read = c.in_ok-size.ensures in
-    let made = c.of_input-answer.ensures.answers_input in
-    on_ok _ (prints c.args.asked _ _ _ _ c.read_full.new.buffer c.in_ok-size.size _ read.bound.0 read.bytes read.end made) c.write_all.ensures.bytes
+    let made = c.of_input-answer.ensures in
+    on_ok _ (prints c.args.asked _ _ _ _ c.read_full.new.buffer c.in_ok-size.size _ read.bound.0 read.bytes read.end made c.characters.ensures) c.write_all.ensures.bytes

@@ -3,4 +3,4 @@ use Rattle.sheet.proofs.Writing.{copied}
 use Rattle.word_sheet.proofs.write.Goals as goal
 
 pub returns : goal.returns
-returns c = copied c.whole.ensures.whole c.copy.ensures
+returns c = copied c.whole.ensures c.copy.ensures
