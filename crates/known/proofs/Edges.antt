@@ -6,6 +6,7 @@ use mathlib.Core.Path.{◌≡◌, refl}
 use mathlib.Core.Bool.{Bool, true, ◌&&◌}
 use mathlib.Core.List.{List, [], ◌∷◌, ◌++◌}
 use lib.Dec.{eqb}
+use Rattle.std.specs.Prelude.{Err, Ok}
 use Rattle.text.specs.Text.{lines_of, is_digit, value_of, all_digits, odd_or_none, is_faulty, bytes_of}
 use Rattle.lines.specs.Frames.{outside, table, frame_from, row_in, frame_in}
 use Rattle.lines.specs.Rules.{outside_limits, head_rule, name_rule, offer_rule, pair_rule, receive_rule, restriction_rule, bracket_rule}
@@ -15,7 +16,7 @@ use Rattle.lines.specs.Labels.{is_thing, place_among, label_rule}
 use Rattle.lines.specs.Values.{padded}
 use Rattle.lines.specs.Line.{first_head, next_name, next_offer, next_label, next_node}
 use Rattle.reading.specs.Tree.{listing}
-use Rattle.reading.specs.Plan.{Outcome, refused, read, Plan, grow, read_names, read_offers, same_bytes, is_same, is_repeated, read_labels, read_tree, after_head, read_plan, wrong_length, plan_in}
+use Rattle.reading.specs.Plan.{Outcome, Plan, grow, read_names, read_offers, same_bytes, is_same, is_repeated, read_labels, read_tree, after_head, read_plan, wrong_length, plan_in}
 use Rattle.putting.specs.Characters.{text}
 
 -- so many lines of one kind
@@ -133,8 +134,8 @@ rows =
     ∷ []
 
 abbrev answers : Outcome Plan → ℕ → ℕ → Bool
-answers (refused f) number line = eqb f.number number && eqb f.line line
-answers (read p) number line = eqb 0 number && eqb 0 line
+answers (Err f) number line = eqb f.number number && eqb f.line line
+answers (Ok p) number line = eqb 0 number && eqb 0 line
 
 abbrev all : List Edge → Bool
 all [] = true

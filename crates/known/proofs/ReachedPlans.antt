@@ -16,7 +16,7 @@ use Rattle.reading.specs.Plan.{grow, read_names, read_offers, same_bytes, is_sam
 use Rattle.sets.specs.inner.Compute.{list_within}
 use Rattle.solving.specs.inner.Compute.{wanted, run, solution_of}
 use Rattle.putting.specs.Characters.{text, digit, hex_line, hex_lines}
-use Rattle.reaching.specs.inner.Compute.{values_from, handles_from, first_from}
+use Rattle.reaching.specs.inner.Compute.{handles_from, handles_of, channels_of}
 use Rattle.reach_sheet.specs.ReachSheet.{reach_lines, ReachSheetFor}
 use Rattle.reach_sheet.specs.inner.Compute.{reach_sheet_for}
 use Rattle.reach_sheet.proofs.Reached.{reach_sheet_computed}
@@ -47,7 +47,7 @@ unfolding lines_of is_digit value_of all_digits odd_or_none is_faulty bytes_of o
     character_table fits fits_one is_shown is_label_from padded is_thing place_among label_rule same_bytes is_same is_repeated read_labels next_label
     outside_limits head_rule name_rule offer_rule pair_rule receive_rule restriction_rule bracket_rule listing
     grow first_head next_name next_offer next_node read_names read_offers read_tree after_head read_plan wrong_length plan_in
-    wanted list_within run solution_of values_from handles_from first_from reach_lines digit hex_line hex_lines reach_sheet_for rows
+    wanted list_within run solution_of handles_from handles_of channels_of reach_lines digit hex_line hex_lines reach_sheet_for rows
 computed_rows = refl
 
 pub reached : Claimed ReachSheetFor rows
