@@ -16,7 +16,7 @@ use lines::labels::{CHANNEL, LEVEL};
 use putting::put_text;
 use sheet::{LONGEST, Sheet, Written};
 
-// A kind of thing that a breach names, and the word for one that has no label.
+// A kind of thing that a breach names, by the number that `Label` (lines) has for it, and the word for one that has no label.
 #[derive(Clone, Copy)]
 struct Called {
     kind: u8,
@@ -33,7 +33,7 @@ const CHANNELS: Called = Called {
     word: b"channel ",
 };
 
-// Puts a number below 100 in decimal.
+// Puts a number below 100 in decimal. Buffer and position stand apart, as `put_text` (putting) takes them.
 fn put_decimal(buffer: &mut [u8], at: usize, number: u8) -> usize
     requires { TwoDigits number × (at + 2 ≤ length buffer.old) }
     ensures { Put buffer.old at (decimal number) buffer.new result }
