@@ -8,15 +8,12 @@ use mathlib.Core.List.{List, [], ◌∷◌, ◌++◌}
 use lib.Dec.{eqb}
 use Rattle.std.specs.Prelude.{Err, Ok}
 use Rattle.text.specs.Text.{lines_of, is_digit, value_of, all_digits, odd_or_none, is_faulty, bytes_of}
-use Rattle.lines.specs.Frames.{outside, table, frame_from, row_in, frame_in}
-use Rattle.lines.specs.Rules.{outside_limits, head_rule, name_rule, offer_rule, pair_rule, receive_rule, restriction_rule, bracket_rule}
+use Rattle.lines.specs.Frames.{table, frame_from}
 use Rattle.label_bytes.specs.Characters.{table as character_table, fits, fits_one}
 use Rattle.label_bytes.specs.Label.{is_shown, is_label_from}
-use Rattle.lines.specs.Labels.{is_thing, place_among, label_rule}
 use Rattle.lines.specs.Values.{padded}
-use Rattle.lines.specs.Line.{first_head, next_name, next_offer, next_label, next_node}
 use Rattle.reading.specs.Tree.{listing}
-use Rattle.reading.specs.Plan.{Outcome, Plan, grow, read_names, read_offers, same_bytes, is_same, is_repeated, read_labels, read_tree, after_head, read_plan, wrong_length, plan_in}
+use Rattle.reading.specs.Plan.{Outcome, Plan, grow, read_names, read_offers, same_bytes, is_same, is_repeated, read_labels, read_tree, after_head, read_plan, plan_in}
 use Rattle.putting.specs.Characters.{text}
 
 -- so many lines of one kind
@@ -142,8 +139,8 @@ all [] = true
 all (r ∷ rs) = answers (plan_in r.said) r.number r.line && all rs
 
 edges : all rows ≡ true
-unfolding lines_of is_digit value_of all_digits odd_or_none is_faulty bytes_of outside table frame_from row_in frame_in
-    character_table fits fits_one is_shown is_label_from padded is_thing place_among label_rule same_bytes is_same is_repeated read_labels next_label
-    outside_limits head_rule name_rule offer_rule pair_rule receive_rule restriction_rule bracket_rule first_head next_name next_offer next_node listing
-    grow read_names read_offers read_tree after_head read_plan wrong_length plan_in rows
+unfolding lines_of is_digit value_of all_digits odd_or_none is_faulty bytes_of table frame_from
+    character_table fits fits_one is_shown is_label_from padded same_bytes is_same is_repeated read_labels
+    listing
+    grow read_names read_offers read_tree after_head read_plan plan_in rows
 edges = refl

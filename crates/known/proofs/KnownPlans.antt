@@ -4,15 +4,12 @@ use Prim.Native.Nat.{ℕ}
 use mathlib.Core.Path.{◌≡◌, refl}
 use mathlib.Core.List.{List, [], ◌∷◌, ◌++◌}
 use Rattle.text.specs.Text.{lines_of, is_digit, value_of, all_digits, odd_or_none, is_faulty, bytes_of}
-use Rattle.lines.specs.Frames.{outside, table, frame_from, row_in, frame_in}
-use Rattle.lines.specs.Rules.{outside_limits, head_rule, name_rule, offer_rule, pair_rule, receive_rule, restriction_rule, bracket_rule}
+use Rattle.lines.specs.Frames.{table, frame_from}
 use Rattle.label_bytes.specs.Characters.{table as character_table, fits, fits_one}
 use Rattle.label_bytes.specs.Label.{is_shown, is_label_from}
-use Rattle.lines.specs.Labels.{is_thing, place_among, label_rule}
 use Rattle.lines.specs.Values.{padded}
-use Rattle.lines.specs.Line.{first_head, next_name, next_offer, next_label, next_node}
 use Rattle.reading.specs.Tree.{listing}
-use Rattle.reading.specs.Plan.{grow, read_names, read_offers, same_bytes, is_same, is_repeated, read_labels, read_tree, after_head, read_plan, wrong_length, plan_in}
+use Rattle.reading.specs.Plan.{grow, read_names, read_offers, same_bytes, is_same, is_repeated, read_labels, read_tree, after_head, read_plan, plan_in}
 use Rattle.solving.specs.inner.Compute.{wanted, run, solution_of}
 use Rattle.sets.specs.inner.Compute.{list_within, lowest_within}
 use Rattle.judging.specs.inner.Compute.{verdict_from}
@@ -95,10 +92,10 @@ rows =
     ∷ []
 
 computed_rows : computed sheet_for rows ≡ sheets rows
-unfolding lines_of is_digit value_of all_digits odd_or_none is_faulty bytes_of outside table frame_from row_in frame_in
-    character_table fits fits_one is_shown is_label_from padded is_thing place_among label_rule same_bytes is_same is_repeated read_labels next_label
-    outside_limits head_rule name_rule offer_rule pair_rule receive_rule restriction_rule bracket_rule listing
-    grow first_head next_name next_offer next_node read_names read_offers read_tree after_head read_plan wrong_length plan_in
+unfolding lines_of is_digit value_of all_digits odd_or_none is_faulty bytes_of table frame_from
+    character_table fits fits_one is_shown is_label_from padded same_bytes is_same is_repeated read_labels
+    listing
+    grow read_names read_offers read_tree after_head read_plan plan_in
     wanted list_within run solution_of lowest_within verdict_from set_lines digit hex_line hex_lines sheet_for rows
 computed_rows = refl
 

@@ -3,7 +3,7 @@ use Rattle.std.proofs.Common.{rules, take_all}
 use Rattle.inputs.proofs.Answering.{front_answers}
 use Rattle.inputs.proofs.of_front.Goals as goal
 
-pub returns-clause-answers_input : goal.returns-clause-answers_input
-returns-clause-answers_input c =
-    let asked = c.asked_of.ensures.asked in
+pub returns : goal.returns
+returns c =
+    let asked = c.asked_of.ensures in
     front_answers c.args.asked c.args.front.now _ c.args.size _ c.requires (search (rules, take_all)) asked
