@@ -83,7 +83,7 @@ module _ {before mid after front : List ℕ} {at next end : ℕ} (word : List �
   pub named_by_label : {label : Label} {short : List ℕ} → HasBytes label → Some label ≡ find (is_of kind number) labels
       → IsShortened (bytes_of_label label) short → Put mid next short after end → PutName before at front (name_by word number (label_for kind number labels)) after end
   named_by_label {label} {short} has e s q =
-      let some = length-take-le label.size label.bytes (omega (arith, has.most, has.array)) in
+      let some = length-take-le label.size label.bytes label.sized in
       named (rw (by_found kind number labels, ← e) (with_label word number (bytes_of_label label) short (omega arith) s)) q
 
 -- and something behind it

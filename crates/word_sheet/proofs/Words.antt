@@ -54,7 +54,7 @@ use Rattle.word_sheet.proofs.Naming.{one_digit, two_digits, name_most, name_then
 within_bytes : (h : Head) (least : ℕ) (before labels : List Label) → LabelsWithin h least before labels → ByRecursion HasBytes labels
 within_bytes h least before [] w = tt
 within_bytes h least before (label ∷ labels) w =
-    (record { some = w.0.some; most = w.0.most; array = w.0.array }, within_bytes h (place_among label.kind label.number + 1) _ labels w.2)
+    (record { some = w.0.some }, within_bytes h (place_among label.kind label.number + 1) _ labels w.2)
 
 -- those of a text, by what is read of it
 module _ (plan : List ℕ) (r : Reading) (e : r ≡ reading_of (plan_in plan)) where

@@ -69,11 +69,7 @@ fn put_name(
 {
     let next = put_text(buffer, at, front);
     match label_for(labels, called.kind, number) {
-        Some(label) => put_text(
-            buffer,
-            next,
-            label_bytes::shortened(&label.bytes[..label.size]),
-        ),
+        Some(label) => put_text(buffer, next, label_bytes::shortened(label.own_bytes())),
         None => {
             let said = put_text(buffer, next, called.word);
             put_decimal(buffer, said, number)

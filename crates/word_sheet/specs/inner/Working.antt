@@ -1,7 +1,7 @@
 -- For the contracts of the code's inner functions alone: labels that have bytes, numbers of two digits, and a name that is put behind other characters.
 -- Assumes nothing.
-use Rattle.std.specs.Prelude.{ℕ, ◌+◌, ◌<◌, ◌≤◌, ◌≡◌, List, ◌++◌, length}
-use Rattle.limits.specs.Limits.{longest_label, longest_short}
+use Rattle.std.specs.Prelude.{ℕ, ◌+◌, ◌<◌, ◌≤◌, List, ◌++◌, length}
+use Rattle.limits.specs.Limits.{longest_short}
 use Rattle.lines.specs.declared.label.Label.{Label}
 use Rattle.putting.specs.Put.{Put}
 use Rattle.judging.specs.declared.Breach.{Breach}
@@ -10,11 +10,9 @@ use Rattle.judging.specs.declared.Verdict.TheVariants.{Unjudged, Yes, No}
 
 -- ---- labels
 
--- a label has bytes, and they stand in its array
+-- a label has bytes
 pub record HasBytes (label : Label) : Type 0 where
   pub some : 1 ≤ label.size
-  pub most : label.size ≤ longest_label
-  pub array : length label.bytes ≡ longest_label
 
 -- ---- numbers
 
