@@ -24,6 +24,8 @@ mod names;
 mod offers;
 mod tree;
 
+pub use tree::branches_of;
+
 // Why a text is refused, and on which line; number 0 and line 0 where it isn't, as document 01 has it of a good reading, and so no Option.
 #[derive(Clone, Copy)]
 pub struct Refusal {

@@ -31,7 +31,7 @@ pub(crate) fn fresh_state(cursor: Cursor) -> State
 }
 
 // How many branches a node has.
-fn branches_of(node: Node) -> u8
+pub fn branches_of(node: Node) -> u8
     ensures { result ≡ branch_count node }
 {
     match node {

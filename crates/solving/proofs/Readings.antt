@@ -1,12 +1,14 @@
 -- From a reading to a solution: a good reading's nodes are those of the plan's tree, so what the rounds answer is what the text's
 -- outcome asks for. Only reading's promise is used. Assumes nothing.
 use Prim.Native.Nat.{ℕ, zero, suc, ◌+◌, ◌<◌}
-use mathlib.Core.Path.{◌≡◌, refl, ap, subst, subst⁻¹, ◌∙◌}
+use mathlib.Core.Path.{◌≡◌, refl, ap, subst, subst⁻¹}
 use mathlib.Core.List.{List, [], ◌∷◌, ◌++◌}
-use mathlib.Core.Logic.{◌≢◌}
+use mathlib.Core.Logic.{inl, inr}
 use native.Mathlib.Omega.{arith}
-use lib.ListN.{length, get_or, length-append}
-use Rattle.std.specs.Prelude.{Ok, Err}
+use lib.ListN.{length, length-append}
+use Rattle.std.proofs.Common.{append_assoc}
+use Rattle.std.proofs.Math.Seq.{get_or-append_seam}
+use Rattle.std.specs.Prelude.{Some, None, Ok, Err}
 use Rattle.lines.specs.declared.Node.{Node}
 use Rattle.lines.specs.declared.Node.TheVariants.{Nil}
 use Rattle.reading.specs.declared.Reading.{Reading}
@@ -14,58 +16,49 @@ use Rattle.lines.specs.Values.{padded}
 use Rattle.reading.specs.Plan.{Outcome, Plan, reading_of}
 use Rattle.reading.specs.Promise.{PlanWithin, Kept}
 use Rattle.reading.specs.Tree.{listing}
+use Rattle.solving.specs.declared.Solution.{Solution}
 use Rattle.solving.specs.declared.Solved.{Solved}
-use Rattle.solving.specs.Solve.{Solves, refused_by}
-use Rattle.solving.specs.inner.Walk.{node_at, Stands, Spells, Spelled, Settles}
+use Rattle.solving.specs.Solve.{Solves, Answered, refused_by, over_allowance}
+use Rattle.solving.specs.inner.Walk.{node_at, Stands, Spells, IsPlan, Settles}
 
--- nodes stand where each of them stands
-stands_each : (ns : List Node) (i : ℕ) (xs : List Node)
-    → ((k : ℕ) → k < length xs → (i + k < length ns) × (node_at ns (i + k) ≡ get_or xs k Nil)) → Stands ns i xs
-stands_each ns i [] h = tt
-stands_each ns i (x ∷ xs) h =
-    let first = h 0 (omega arith) in
-    let here : i + 0 ≡ i = omega arith in (
-      subst (λ n. n < length ns) here first.0,
-      subst (λ n. node_at ns n ≡ x) here first.1,
-      stands_each ns (i + 1) xs (λ k l.
-          let next = h (suc k) (omega arith) in
-          let there : i + suc k ≡ i + 1 + k = omega arith in
-          (subst (λ n. n < length ns) there next.0, subst (λ n. node_at ns n ≡ get_or xs k Nil) there next.1)),
-    )
-
-nodes_at : (xs : List Node) (rest : List Node) (k : ℕ) → k < length xs → node_at (xs ++ rest) k ≡ get_or xs k Nil
-nodes_at [] rest k l = absurd (omega arith)
-nodes_at (x ∷ xs) rest zero l = refl
-nodes_at (x ∷ xs) rest (suc k) l = nodes_at xs rest k (omega arith)
-
-listed : (xs : List Node) (rest : List Node) → Stands (xs ++ rest) 0 xs
-listed xs rest = stands_each (xs ++ rest) 0 xs (λ k l.
-    let from_start : k ≡ 0 + k = omega arith in
-    let long = length-append xs rest in
-    (omega arith, subst (λ n. node_at (xs ++ rest) n ≡ get_or xs k Nil) from_start (nodes_at xs rest k l)))
+-- nodes stand behind those before them
+stands_behind : (before xs rest : List Node) (i : ℕ) → i ≡ length before → Stands (before ++ (xs ++ rest)) i xs
+stands_behind before [] rest i e = tt
+stands_behind before (x ∷ xs) rest i e =
+    let long = length-append before (x ∷ (xs ++ rest)) in
+    let more = length-append before (x ∷ []) in
+    let others = stands_behind (before ++ (x ∷ [])) xs rest (i + 1) (omega arith) in
+    (omega arith, rw e (get_or-append_seam before x (xs ++ rest) Nil), rw append_assoc at others)
 
 tree_stands : (p : Plan) → Stands (reading_of (Ok p)).nodes 0 (listing p.tree)
 unfolding padded
-tree_stands p = listed (listing p.tree) _
+tree_stands p = stands_behind [] (listing p.tree) _ 0 refl
 
 plan_spells : (p : Plan) → PlanWithin p → Spells (reading_of (Ok p)).nodes (reading_of (Ok p)).offers p
 plan_spells p w = record { within = w; stands = tree_stands p; offers = refl }
 
 -- ---- by what the text reads as
 
-pub refusal_solves : (o : Outcome Plan) (q : Reading) (allowance : ℕ) (r : Solved) → q ≡ reading_of o → q.refusal.number ≢ 0
-    → r ≡ refused_by q.refusal → Solves o allowance r
-refusal_solves (Err f) q allowance r e n a = a ∙ ap (λ (k : Reading). refused_by k.refusal) e
-refusal_solves (Ok p) q allowance r e n a = absurd (n (ap (λ (k : Reading). k.refusal.number) e))
-
-pub reading_spelled : (o : Outcome Plan) (q : Reading) → Kept o → q ≡ reading_of o → q.refusal.number ≡ 0 → Spelled q.head q.nodes q.offers
-reading_spelled (Err f) q k e z =
+-- a reading without a refusal is a plan's
+pub plan_read : (o : Outcome Plan) (q : Reading) → Kept o → q ≡ reading_of o → q.refusal.number ≡ 0
+    → (p : Plan) × (o ≡ Ok p) × (q ≡ reading_of (Ok p)) × Spells q.nodes q.offers p
+plan_read (Err f) q k e z =
     let n = ap (λ (u : Reading). u.refusal.number) e in let l = k.0.0 in absurd (omega arith)
-reading_spelled (Ok p) q k e z = subst⁻¹ (λ (u : Reading). Spelled u.head u.nodes u.offers) e (p, refl, plan_spells p k)
+plan_read (Ok p) q k e z = (p, refl, e, subst⁻¹ (λ (u : Reading). Spells u.nodes u.offers p) e (plan_spells p k))
 
-pub plan_solves : (o : Outcome Plan) (q : Reading) (allowance : ℕ) (r : Solved) → Kept o → q ≡ reading_of o → q.refusal.number ≡ 0
-    → Settles q.head q.nodes q.offers allowance r → Solves o allowance r
-plan_solves (Err f) q allowance r k e z s =
-    let n = ap (λ (u : Reading). u.refusal.number) e in let l = k.0.0 in absurd (omega arith)
-plan_solves (Ok p) q allowance r k e z s =
-    subst (λ (u : Reading). Settles u.head u.nodes u.offers allowance r) e s p refl (plan_spells p k)
+module _ (o : Outcome Plan) (q : Reading) (allowance : ℕ) (k : Kept o) (e : q ≡ reading_of o) (z : q.refusal.number ≡ 0) where
+  pub plan_nodes : IsPlan q.nodes
+  plan_nodes = let w = plan_read o q k e z in (q.offers, w.0, w.3)
+
+  pub plan_exceeds : Settles q.nodes q.offers allowance None → Solves o allowance (refused_by over_allowance)
+  plan_exceeds s =
+      let w = plan_read o q k e z in
+      subst⁻¹ (λ (r : Outcome Plan). Solves r allowance (refused_by over_allowance)) w.1 (inr (record { exceeds = s w.0 w.3; is = refl }))
+
+  pub plan_answered : (n : ℕ) (s : Solution) → Settles q.nodes q.offers allowance (Some (n, s))
+      → Solves o allowance (record { refusal = q.refusal; head = q.head; count = n; solution = s })
+  plan_answered n s a =
+      let w = plan_read o q k e z in
+      let answer : Reading → Solved = λ u. record { refusal = u.refusal; head = u.head; count = n; solution = s } in
+      subst⁻¹ (λ (r : Outcome Plan). Solves r allowance (answer q)) w.1
+      (inl (subst⁻¹ (λ (u : Reading). Answered w.0 allowance (answer u)) w.2 (a w.0 w.3)))

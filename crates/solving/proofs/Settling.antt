@@ -7,16 +7,19 @@ use mathlib.Core.Logic.Iff
 use mathlib.Core.Logic.{◌↔◌, inl, inr, ⊎_elim}
 use native.Mathlib.Omega.{arith}
 use native.Mathlib.Decide.{ℕ_discrete, dec_lt}
-use lib.ListN.{length}
+use lib.ListN.{length, take, drop}
+use Rattle.std.specs.Prelude.{Some}
+use Rattle.std.proofs.lemmas.List.{get_or-take, get_or-drop, length-take, length-drop}
 use Rattle.limits.specs.Limits.{most_channels, most_binders, most_depth, outermost, levels, place_of, level_sets}
 use Rattle.limits.proofs.Places.{place_below, level_of, channel_of, place_back}
-use Rattle.sets.specs.Set.{Has}
-use Rattle.sets.specs.Rows.{SetRow, empty_row, set_at, HasAt, Copied}
+use Rattle.sets.specs.Set.{none, Has}
+use Rattle.sets.specs.Rows.{SetRow, empty_row, set_at, HasAt}
 use Rattle.sets.proofs.Members.{same_members}
-use Rattle.sets.proofs.SameRows.{none_at, same_row}
+use Rattle.sets.proofs.SameRows.{none_at, same_row, empty_length}
 use Rattle.lines.specs.declared.Node.{Node}
 use Rattle.reading.specs.Promise.{EachWithin, PlanWithin}
 use Rattle.reading.specs.Plan.{Plan, no_refusal}
+use Rattle.solving.specs.declared.Solution.{Solution}
 use Rattle.solving.specs.declared.Solved.{Solved}
 use Rattle.solving.specs.Solutions.{Fact, binder_set, in_set, out_set, members_in}
 use Rattle.solving.specs.Rounds.{Wanted, Settled, after, Count}
@@ -31,15 +34,14 @@ use Rattle.solving.proofs.Walks.{alone}
 
 -- ---- the round's walk may begin
 
-pub round_ready : (ns : List Node) (old new : SetRow) → length old ≡ table_size → length new ≡ table_size → IsPlan ns
-    → Ready most_depth ns 0 outermost 1 old new
-round_ready ns old new zo zn w =
+pub round_ready : (ns : List Node) → IsPlan ns → Ready most_depth ns 0 (Some outermost) 1
+round_ready ns w =
     let p = w.1 in
     let s = w.2 in
     record {
-      few = omega arith;
       head = p.head;
-      lent = record { fits = s.within.head; leveled = inr refl; olds = zo; news = zn };
+      fits = s.within.head;
+      leveled = inr refl;
       trees = p.tree ∷ [];
       many = refl;
       planted = record {
@@ -88,47 +90,58 @@ module _ (a b : SetRow) (same : (f : Fact) → in_table a f ↔ in_table b f) wh
 
 -- ---- a table copied out to a solution
 
+-- the places of a row from a start on, n of them
+part_at : (t : SetRow) (start n i : ℕ) → i < n → set_at (take n (drop start t)) i ≡ set_at t (start + i)
+part_at t start n i l = get_or-take n (drop start t) i none l ∙ get_or-drop start t i none
+
 -- w sets to each of n levels, from a start on
-row_copied : (w n start : ℕ) (t from r : SetRow) → length from ≡ n * w → Copied from t start r → (l c u : ℕ) → l < n → c < w
-    → HasAt r (l * w + c) u ↔ HasAt t (start + l * w + c) u
-row_copied w n start t from r long k l c u l_fits c_fits =
+row_copied : (w n start : ℕ) (t : SetRow) → (l c u : ℕ) → l < n → c < w
+    → HasAt (take (n * w) (drop start t)) (l * w + c) u ↔ HasAt t (start + l * w + c) u
+row_copied w n start t l c u l_fits c_fits =
     let at : start + (l * w + c) ≡ start + l * w + c = omega arith in
-    let e = k.copies (l * w + c) (omega (arith, place_below w n l c l_fits c_fits)) ∙ ap (set_at t) at in
+    let e = part_at t start (n * w) (l * w + c) (omega (arith, place_below w n l c l_fits c_fits)) ∙ ap (set_at t) at in
     (subst (λ s. Has s u) e, subst⁻¹ (λ s. Has s u) e)
 
-pub unpacked : (t rb ri ro b i o : SetRow) → length rb ≡ most_binders → length ri ≡ level_sets → length ro ≡ level_sets
-    → Copied rb t 0 b → Copied ri t ins_start i → Copied ro t outs_start o → Unpacked t (record { binders = b; ins = i; outs = o })
-unpacked t rb ri ro b i o lb li lo cb ci co = record {
-  same = same;
-  sized = record { binders = cb.sized ∙ lb; ins = ci.sized ∙ li; outs = co.sized ∙ lo };
-}
-  where
-    row : (start : ℕ) (from r : SetRow) → length from ≡ level_sets → Copied from t start r → (l c u : ℕ) → l < levels → c < most_channels
-        → HasAt r (place_of l c) u ↔ HasAt t (start + l * most_channels + c) u
-    row start from r = row_copied most_channels levels start t from r
+abbrev parts : SetRow → Solution
+parts t = record { binders = take most_binders t; ins = take level_sets (drop ins_start t); outs = take level_sets (drop outs_start t) }
 
-    same : (f : Fact) → members_in (record { binders = b; ins = i; outs = o }) f ↔ in_table t f
+pub unpacked : (t : SetRow) (s : Solution) → length t ≡ table_size → s.binders ≡ take most_binders t
+    → s.ins ≡ take level_sets (drop ins_start t) → s.outs ≡ take level_sets (drop outs_start t) → Unpacked t s
+unpacked t s z eb ei eo = subst⁻¹ (Unpacked t) (λ i. record { binders = eb i; ins = ei i; outs = eo i }) (record {
+  same = same;
+  sized = record {
+    binders = omega (arith, length-take {A = ℕ});
+    ins = omega (arith, length-take {A = ℕ}, length-drop {A = ℕ});
+    outs = omega (arith, length-take {A = ℕ}, length-drop {A = ℕ});
+  };
+})
+  where
+    row : (start l c u : ℕ) → l < levels → c < most_channels
+        → HasAt (take level_sets (drop start t)) (place_of l c) u ↔ HasAt t (start + l * most_channels + c) u
+    row start = row_copied most_channels levels start t
+
+    same : (f : Fact) → members_in (parts t) f ↔ in_table t f
     same (binder_set d u) =
-        let e : d < most_binders → set_at b d ≡ set_at t d = λ h.
-        cb.copies d (omega arith) ∙ ap (set_at t) (let z : 0 + d ≡ d = omega arith in z) in
+        let e : d < most_binders → set_at (take most_binders t) d ≡ set_at t d = get_or-take most_binders t d none in
         ((λ h. (h.0, subst (λ s. Has s u) (e h.0) h.1)), λ h. (h.0, subst⁻¹ (λ s. Has s u) (e h.0) h.1))
-    same (in_set l c u) = (
-      (λ h. (h.0, h.1, (row ins_start ri i li ci l c u h.0 h.1).0 h.2)),
-      (λ h. (h.0, h.1, (row ins_start ri i li ci l c u h.0 h.1).1 h.2)),
-    )
-    same (out_set l c u) = (
-      (λ h. (h.0, h.1, (row outs_start ro o lo co l c u h.0 h.1).0 h.2)),
-      (λ h. (h.0, h.1, (row outs_start ro o lo co l c u h.0 h.1).1 h.2)),
-    )
+    same (in_set l c u) =
+        ((λ h. (h.0, h.1, (row ins_start l c u h.0 h.1).0 h.2)), (λ h. (h.0, h.1, (row ins_start l c u h.0 h.1).1 h.2)))
+    same (out_set l c u) =
+        ((λ h. (h.0, h.1, (row outs_start l c u h.0 h.1).0 h.2)), (λ h. (h.0, h.1, (row outs_start l c u h.0 h.1).1 h.2)))
 
 -- ---- the table after some rounds
 
 pub record Reached (p : Plan) (n : ℕ) (t : SetRow) : Type 0 where
   pub holds : (f : Fact) → after p n f ↔ in_table t f
   pub busy : (j : ℕ) → j < n → Settled p (after p j) → ⊥
+  pub sized : length t ≡ table_size
 
 pub reached_none : (p : Plan) → Reached p 0 (empty_row table_size)
-reached_none p = record { holds = λ f. (absurd, λ x. absurd (empty_table f x)); busy = λ j l s. omega arith }
+reached_none p = record {
+  holds = λ f. (absurd, λ x. absurd (empty_table f x));
+  busy = λ j l s. omega arith;
+  sized = empty_length table_size;
+}
 
 module _ (p : Plan) (n : ℕ) (t u : SetRow) (r : Reached p n t) (a : Adds t u (Wanted p (in_table t))) where
   -- what is wanted of the sets is wanted of the table
@@ -141,14 +154,14 @@ module _ (p : Plan) (n : ℕ) (t u : SetRow) (r : Reached p n t) (a : Adds t u (
   pub settled_if : u ≡ t → Settled p (after p n)
   settled_if e f w = (r.holds f).1 (subst (λ k. in_table k f) e ((a.adds f).1 (inr ((wanted_same f).0 w))))
 
-  pub same_if : length u ≡ table_size → length t ≡ table_size → Settled p (after p n) → u ≡ t
-  same_if x y s = table_same u t (λ f. (
+  pub same_if : length u ≡ table_size → Settled p (after p n) → u ≡ t
+  same_if x s = table_same u t (λ f. (
     (λ h. ⊎_elim (λ z. z) (λ w. (r.holds f).0 (s f ((wanted_same f).1 w))) ((a.adds f).0 h)),
     (λ h. (a.adds f).1 (inl h)),
-  )) x y
+  )) x r.sized
 
-  pub reached_more : length u ≡ table_size → length t ≡ table_size → (u ≡ t → ⊥) → Reached p (n + 1) u
-  reached_more x y d = record { holds = subst (λ k. (f : Fact) → after p k f ↔ in_table u f) one_more grown; busy = busier }
+  pub reached_more : length u ≡ table_size → (u ≡ t → ⊥) → Reached p (n + 1) u
+  reached_more x d = record { holds = subst (λ k. (f : Fact) → after p k f ↔ in_table u f) one_more grown; busy = busier; sized = x }
     where
       one_more : suc n ≡ n + 1
       one_more = omega arith
@@ -163,7 +176,7 @@ module _ (p : Plan) (n : ℕ) (t u : SetRow) (r : Reached p n t) (a : Adds t u (
       busier j l s = go (ℕ_discrete j n)
         where
           go : Dec (j ≡ n) → ⊥
-          go (yes q) = d (same_if x y (subst (λ k. Settled p (after p k)) q s))
+          go (yes q) = d (same_if x (subst (λ k. Settled p (after p k)) q s))
           go (no q) = r.busy j (omega arith) s
 
 -- ---- the answers

@@ -1,26 +1,25 @@
 -- The walk's promises put together: of a node from its clause and its branches, of branches from the first and the others.
 -- Assumes nothing.
 use Prim.Native.Nat.{ℕ, suc, ◌+◌, ◌-◌, ◌<◌}
-use mathlib.Core.Bool.{Bool}
 use mathlib.Core.Path.{◌≡◌, refl, sym, ap, subst, subst⁻¹, ◌∙◌}
 use mathlib.Core.List.{List, [], ◌∷◌, ◌++◌, append-nil}
 use mathlib.Core.Logic.{◌↔◌, ◌≢◌, ◌⊎◌, inl, inr, ⊎_elim}
 use native.Mathlib.Omega.{arith}
-use lib.Dec.{T}
 use lib.ListN.{length, length-append}
+use Rattle.std.specs.Prelude.{Option, Some, None, IfSome}
+use Rattle.sets.specs.Rows.{SetRow}
 use Rattle.lines.specs.declared.Head.{Head}
 use Rattle.lines.specs.declared.Node.{Node}
 use Rattle.lines.specs.Promise.{NodeWithin}
 use Rattle.reading.specs.Promise.{EachWithin}
 use Rattle.reading.specs.Tree.{branch_count, Tree, listing}
-use Rattle.solving.specs.declared.clauses.Step.{Step}
 use Rattle.solving.specs.Solutions.{Fact, Level}
 use Rattle.solving.specs.Rounds.{Wants}
-use Rattle.solving.specs.inner.Table.{in_table, table_size, Adds}
-use Rattle.solving.specs.inner.Walk.{Condition, Own, level_in, Able, Asked, Stepped, node_at, Stands, listings, EachDepth, SomeWants, Planted, Ready, Walked}
+use Rattle.solving.specs.inner.Table.{in_table, Adds}
+use Rattle.solving.specs.inner.Walk.{Able, Stepped, node_at, Stands, listings, EachDepth, SomeWants, WantsAt, Planted, Ready, Walked}
 use Rattle.solving.proofs.Ranges.{within_split}
-use Rattle.solving.proofs.Tables.{adds_none, adds_both, adds_same}
-use Rattle.solving.proofs.Trees.{node_of, branches_of, tree_branches, tree_listing, tree_depth, tree_wants, level_inside, few_branches}
+use Rattle.solving.proofs.Tables.{adds_both, adds_same}
+use Rattle.solving.proofs.Trees.{node_of, branches_of, tree_branches, tree_listing, tree_depth, tree_wants, level_inside}
 
 -- ---- nodes that stand in a row
 
@@ -71,52 +70,50 @@ the_tree [] e = absurd (omega arith)
 the_tree (p ∷ []) e = (p, refl)
 the_tree (p ∷ q ∷ ps) e = absurd (omega arith)
 
-pub ready_root : (d : ℕ) (ns : List Node) (at l : ℕ) (old new : List ℕ) (r : Ready d ns at l 1 old new) → (p : Tree) × Rooted r.head d ns at p
-ready_root d ns at l old new r =
+pub ready_root : (d : ℕ) (ns : List Node) (at : ℕ) (l : Option ℕ) (r : Ready d ns at l 1) → (p : Tree) × Rooted r.head d ns at p
+ready_root d ns at l r =
     let t = the_tree r.trees r.many in
     (t.0, rooted r.head d ns at t.0 (subst (Planted r.head d ns at) t.1 r.planted))
 
 -- ---- what is asked of the calls
 
-pub clause_able : (d : ℕ) (ns : List Node) (at l : ℕ) (old new : List ℕ) → Ready d ns at l 1 old new → Able (node_at ns at) l old new
-clause_able d ns at l old new r =
-    let w = ready_root d ns at l old new r in
-    record { head = r.head; lent = r.lent; within = subst⁻¹ (NodeWithin r.head) w.1.node w.1.within }
+pub clause_able : (d : ℕ) (ns : List Node) (at : ℕ) (l : Option ℕ) → Ready d ns at l 1 → Able (node_at ns at) l
+clause_able d ns at l r =
+    let w = ready_root d ns at l r in
+    record { head = r.head; fits = r.fits; leveled = r.leveled; within = subst⁻¹ (NodeWithin r.head) w.1.node w.1.within }
 
-pub branches_ready : (d : ℕ) (ns : List Node) (at l : ℕ) (live : Bool) (old new : List ℕ) (s : Step) (then : List ℕ) → Ready d ns at l 1 old new
-    → Stepped (node_at ns at) l live old new s then → Ready (d - 1) ns (at + 1) s.level s.branches old then
-branches_ready d ns at l live old new s then r st =
-    let w = ready_root d ns at l old new r in
-    let p = w.0 in
+-- branches are at a level of the plan, where they have one
+inner_leveled : (h : Head) (n : Node) (l inner : Option ℕ) (old new then : SetRow) → NodeWithin h n → IfSome l (Level h)
+    → Stepped n l old new inner then → IfSome inner (Level h)
+inner_leveled h n None None old new then w v s = tt
+inner_leveled h n None (Some k) old new then w v s = absurd (let e = s.0 in cc)
+inner_leveled h n (Some l) None old new then w v s = tt
+inner_leveled h n (Some l) (Some k) old new then w v s = subst⁻¹ (Level h) s.0 (level_inside h n l w v)
+
+pub branches_ready : (d : ℕ) (ns : List Node) (at : ℕ) (l inner : Option ℕ) (old new then : SetRow) (b : ℕ) → Ready d ns at l 1
+    → Stepped (node_at ns at) l old new inner then → b ≡ branch_count (node_at ns at) → Ready (d - 1) ns (at + 1) inner b
+branches_ready d ns at l inner old new then b r st many =
+    let w = ready_root d ns at l r in
     let n = w.1.node in
-    let level : s.level ≡ level_in (node_of p) l = st.level_in ∙ ap (λ (k : Node). level_in k l) n in
-    let two = few_branches (node_at ns at) in
-    let b = st.branches in
     record {
-      few = omega arith;
       head = r.head;
-      lent = record {
-        fits = r.lent.fits;
-        leveled = subst⁻¹ (Level r.head) level
-            (level_inside r.head (node_of p) l w.1.within r.lent.leveled);
-        olds = r.lent.olds;
-        news = st.asked.sized;
-      };
-      trees = branches_of p;
-      many = tree_branches p ∙ ap branch_count (sym n) ∙ sym st.branches;
+      fits = r.fits;
+      leveled = inner_leveled r.head (node_at ns at) l inner old new then (subst⁻¹ (NodeWithin r.head) n w.1.within) r.leveled st;
+      trees = branches_of w.0;
+      many = tree_branches w.0 ∙ ap branch_count (sym n) ∙ sym many;
       planted = w.1.branches;
     }
 
 -- the first of some trees, and the others
-pub first_ready : (d : ℕ) (ns : List Node) (at l b : ℕ) (old new : List ℕ) → b ≢ 0 → Ready d ns at l b old new → Ready d ns at l 1 old new
-first_ready d ns at l b old new b0 r = go r.trees r.many r.planted
+pub first_ready : (d : ℕ) (ns : List Node) (at : ℕ) (l : Option ℕ) (b k : ℕ) → b ≡ suc k → Ready d ns at l b → Ready d ns at l 1
+first_ready d ns at l b k more r = go r.trees r.many r.planted
   where
-    go : (ps : List Tree) → length ps ≡ b → Planted r.head d ns at ps → Ready d ns at l 1 old new
-    go [] e w = absurd (b0 (sym e))
+    go : (ps : List Tree) → length ps ≡ b → Planted r.head d ns at ps → Ready d ns at l 1
+    go [] e w = absurd (omega arith)
     go (p ∷ ps) e w = record {
-      few = omega arith;
       head = r.head;
-      lent = r.lent;
+      fits = r.fits;
+      leveled = r.leveled;
       trees = p ∷ [];
       many = refl;
       planted = record {
@@ -126,20 +123,19 @@ first_ready d ns at l b old new b0 r = go r.trees r.many r.planted
       };
     }
 
-others_ready : (d : ℕ) (ns : List Node) (at l b : ℕ) (live : Bool) (old new : List ℕ) (next : ℕ) (then : List ℕ) → b ≢ 0
-    → Ready d ns at l b old new → Walked ns at l 1 live old new next then → Ready d ns next l (b - 1) old then
-others_ready d ns at l b live old new next then b0 r v = go r.trees r.many r.planted
+pub others_ready : (d : ℕ) (ns : List Node) (at : ℕ) (l : Option ℕ) (b k : ℕ) (old new : SetRow) (next : ℕ) (then : SetRow) → b ≡ suc k
+    → Ready d ns at l b → Walked ns at l 1 old new next then → Ready d ns next l k
+others_ready d ns at l b k old new next then more r v = go r.trees r.many r.planted
   where
-    go : (ps : List Tree) → length ps ≡ b → Planted r.head d ns at ps → Ready d ns next l (b - 1) old then
-    go [] e w = absurd (b0 (sym e))
+    go : (ps : List Tree) → length ps ≡ b → Planted r.head d ns at ps → Ready d ns next l k
+    go [] e w = absurd (omega arith)
     go (p ∷ ps) e w =
         let s = stands_split ns at (listing p) (listings ps) w.stands in
         let n = v.next (p ∷ []) refl (subst⁻¹ (Stands ns at) (alone p) s.0) ∙ ap (λ (xs : List Node). at + length xs) (alone p) in
-        let f = r.few in
         record {
-          few = omega arith;
           head = r.head;
-          lent = record { fits = r.lent.fits; leveled = r.lent.leveled; olds = r.lent.olds; news = v.sized };
+          fits = r.fits;
+          leveled = r.leveled;
           trees = ps;
           many = omega arith;
           planted = record {
@@ -149,29 +145,18 @@ others_ready d ns at l b live old new next then b0 r v = go r.trees r.many r.pla
           };
         }
 
--- the second of two
-pub second_ready : (d : ℕ) (ns : List Node) (at l b : ℕ) (live : Bool) (old new : List ℕ) (next : ℕ) (then : List ℕ) → b ≡ 2
-    → Ready d ns at l b old new → Walked ns at l 1 live old new next then → Ready d ns next l 1 old then
-second_ready d ns at l b live old new next then e r v =
-    let other : b - 1 ≡ 1 = omega arith in
-    subst (λ k. Ready d ns next l k old then) other (others_ready d ns at l b live old new next then (λ z. omega arith) r v)
-
 -- ---- what is promised
 
-pub walked_none : (ns : List Node) (at l b : ℕ) (live : Bool) (old new : List ℕ) → b ≡ 0 → length new ≡ table_size → Walked ns at l b live old new at new
-walked_none ns at l b live old new b0 z = record { next = next; adds = adds; sized = z }
-  where
-    next : (ps : List Tree) → length ps ≡ b → Stands ns at (listings ps) → at ≡ at + length (listings ps)
-    next [] e h = omega arith
-    next (p ∷ ps) e h = absurd (omega arith)
+-- what one tree and others want
+first_wants : (p : Tree) (ps : List Tree) (l : Option ℕ) (old : SetRow) (f : Fact)
+    → WantsAt (p ∷ ps) l (in_table old) f ↔ (WantsAt (p ∷ []) l (in_table old) f ⊎ WantsAt ps l (in_table old) f)
+first_wants p ps None old f = (absurd, ⊎_elim absurd absurd)
+first_wants p ps (Some l) old f =
+    (⊎_elim (λ w. inl (inl w)) inr, ⊎_elim (⊎_elim inl absurd) inr)
 
-    adds : (ps : List Tree) → length ps ≡ b → Stands ns at (listings ps) → Adds new new (λ f. T live × SomeWants ps l (in_table old) f)
-    adds [] e h = adds_none new (λ f w. w.1)
-    adds (p ∷ ps) e h = absurd (omega arith)
-
-walked_more : (ns : List Node) (at l b : ℕ) (live : Bool) (old new : List ℕ) (m : ℕ) (mid : List ℕ) (r : ℕ) (then : List ℕ) → b ≢ 0
-    → Walked ns at l 1 live old new m mid → Walked ns m l (b - 1) live old mid r then → Walked ns at l b live old new r then
-walked_more ns at l b live old new m mid r then b0 first others = record { next = next; adds = adds; sized = others.sized }
+pub walked_more : (ns : List Node) (at : ℕ) (l : Option ℕ) (b k : ℕ) (old new : SetRow) (m : ℕ) (mid : SetRow) (r : ℕ) (then : SetRow) → b ≡ suc k
+    → Walked ns at l 1 old new m mid → Walked ns m l k old mid r then → Walked ns at l b old new r then
+walked_more ns at l b k old new m mid r then more first others = record { next = next; adds = adds }
   where
     -- the first tree's walk ends where the others stand
     ends : (p : Tree) (ps : List Tree) → Stands ns at (listings (p ∷ ps)) → (m ≡ at + length (listing p)) × Stands ns m (listings ps)
@@ -181,7 +166,7 @@ walked_more ns at l b live old new m mid r then b0 first others = record { next 
         (n, subst⁻¹ (λ k. Stands ns k (listings ps)) n s.1)
 
     next : (ps : List Tree) → length ps ≡ b → Stands ns at (listings ps) → r ≡ at + length (listings ps)
-    next [] e h = absurd (b0 (sym e))
+    next [] e h = absurd (omega arith)
     next (p ∷ ps) e h =
         let w = ends p ps h in
         let q = w.0 in
@@ -189,70 +174,51 @@ walked_more ns at l b live old new m mid r then b0 first others = record { next 
         let a = length-append (listing p) (listings ps) in
         omega arith
 
-    adds : (ps : List Tree) → length ps ≡ b → Stands ns at (listings ps) → Adds new then (λ f. T live × SomeWants ps l (in_table old) f)
-    adds [] e h = absurd (b0 (sym e))
+    adds : (ps : List Tree) → length ps ≡ b → Stands ns at (listings ps) → Adds new then (WantsAt ps l (in_table old))
+    adds [] e h = absurd (omega arith)
     adds (p ∷ ps) e h =
         let s = stands_split ns at (listing p) (listings ps) h in
-        adds_both (first.adds (p ∷ []) refl (subst⁻¹ (Stands ns at) (alone p) s.0)) (others.adds ps (omega arith) (ends p ps h).1) (λ f. (
-          (λ w. ⊎_elim (λ x. inl (w.0, inl x)) (λ x. inr (w.0, x)) w.1),
-          ⊎_elim (λ w. (w.0, ⊎_elim inl absurd w.1)) (λ w. (w.0, inr w.1)),
-        ))
+        adds_both (first.adds (p ∷ []) refl (subst⁻¹ (Stands ns at) (alone p) s.0)) (others.adds ps (omega arith) (ends p ps h).1) (first_wants p ps l old)
 
--- one branch, and two
-pub walked_one : (ns : List Node) (at l b : ℕ) (live : Bool) (old new : List ℕ) (r : ℕ) (then : List ℕ) → b ≡ 1
-    → Walked ns at l 1 live old new r then → Walked ns at l b live old new r then
-walked_one ns at l b live old new r then e w = subst⁻¹ (λ k. Walked ns at l k live old new r then) e w
+-- what a tree wants is what its root does and what its branches do
+root_wants : (p : Tree) (l inner : Option ℕ) (old new mid then : SetRow) → Stepped (node_of p) l old new inner mid
+    → Adds mid then (WantsAt (branches_of p) inner (in_table old)) → Adds new then (WantsAt (p ∷ []) l (in_table old))
+root_wants p None None old new mid then s b = subst (λ k. Adds k then (λ f. ⊥)) s.1 b
+root_wants p None (Some k) old new mid then s b = absurd (let e = s.0 in cc)
+root_wants p (Some l) None old new mid then s b =
+    adds_same (subst (λ k. Adds k then (λ f. ⊥)) s.1 b) (λ f. ((λ w. s.0 ((tree_wants p l (in_table old) f).0 (⊎_elim (λ x. x) absurd w)).0), absurd))
+root_wants p (Some l) (Some k) old new mid then s b =
+    adds_both s.2 (subst (λ m. Adds mid then (SomeWants (branches_of p) m (in_table old))) s.0 b) (λ f.
+    let e = tree_wants p l (in_table old) f in
+    ((λ w. (e.0 (⊎_elim (λ x. x) absurd w)).1), λ w. inl (e.1 (s.1, w))))
 
-pub walked_two : (ns : List Node) (at l b : ℕ) (live : Bool) (old new : List ℕ) (m : ℕ) (mid : List ℕ) (r : ℕ) (then : List ℕ) → b ≡ 2
-    → Walked ns at l 1 live old new m mid → Walked ns m l 1 live old mid r then → Walked ns at l b live old new r then
-walked_two ns at l b live old new m mid r then e first second =
-    let other : b - 1 ≡ 1 = omega arith in
-    let rest = subst⁻¹ (λ k. Walked ns m l k live old mid r then) other second in
-    walked_more ns at l b live old new m mid r then (λ z. omega arith) first rest
-
-pub walked_node : (ns : List Node) (at l : ℕ) (live : Bool) (old new : List ℕ) (s : Step) (mid : List ℕ) (r : ℕ) (then : List ℕ)
-    → Stepped (node_at ns at) l live old new s mid → Walked ns (at + 1) s.level s.branches s.live old mid r then
-    → Walked ns at l 1 live old new r then
-walked_node ns at l live old new s mid r then st br = record { next = next; adds = adds; sized = br.sized }
+pub walked_node : (ns : List Node) (at : ℕ) (l inner : Option ℕ) (b : ℕ) (old new mid : SetRow) (r : ℕ) (then : SetRow)
+    → Stepped (node_at ns at) l old new inner mid → b ≡ branch_count (node_at ns at) → Walked ns (at + 1) inner b old mid r then
+    → Walked ns at l 1 old new r then
+walked_node ns at l inner b old new mid r then st many br = record { next = next; adds = adds }
   where
     -- the branches of the tree that stands here
-    many : (p : Tree) → node_at ns at ≡ node_of p → length (branches_of p) ≡ s.branches
-    many p n = tree_branches p ∙ ap branch_count (sym n) ∙ sym st.branches
+    branches : (p : Tree) → node_at ns at ≡ node_of p → length (branches_of p) ≡ b
+    branches p n = tree_branches p ∙ ap branch_count (sym n) ∙ sym many
 
     next : (ps : List Tree) → length ps ≡ 1 → Stands ns at (listings ps) → r ≡ at + length (listings ps)
     next [] e h = absurd (omega arith)
     next (p ∷ q ∷ ps) e h = absurd (omega arith)
     next (p ∷ []) e h =
         let w = root_stands ns at p h in
-        let b = br.next (branches_of p) (many p w.1) w.2 in
+        let b = br.next (branches_of p) (branches p w.1) w.2 in
         let k = ap (λ (xs : List Node). length xs) (alone p ∙ tree_listing p) in
         omega arith
 
-    adds : (ps : List Tree) → length ps ≡ 1 → Stands ns at (listings ps) → Adds new then (λ f. T live × SomeWants ps l (in_table old) f)
+    adds : (ps : List Tree) → length ps ≡ 1 → Stands ns at (listings ps) → Adds new then (WantsAt ps l (in_table old))
     adds [] e h = absurd (omega arith)
     adds (p ∷ q ∷ ps) e h = absurd (omega arith)
     adds (p ∷ []) e h =
         let w = root_stands ns at p h in
-        let a = subst (λ n. Asked n l live old new s.live mid) w.1 st.asked in
-        let level : s.level ≡ level_in (node_of p) l = st.level_in ∙ ap (λ (k : Node). level_in k l) w.1 in
-        let b = subst (λ k. Adds mid then (λ f. T s.live × SomeWants (branches_of p) k (in_table old) f)) level
-        (br.adds (branches_of p) (many p w.1) w.2) in
-        adds_both a.adds b (λ f. both p f a.goes)
-      where
-        both : (p : Tree) (f : Fact) → T s.live ↔ (T live × Condition (node_of p) (in_table old))
-            → (T live × (Wants p l (in_table old) f ⊎ ⊥))
-            ↔ ((T s.live × Own (node_of p) l (in_table old) f) ⊎ (T s.live × SomeWants (branches_of p) (level_in (node_of p) l) (in_table old) f))
-        both p f g =
-            let e = tree_wants p l (in_table old) f in (
-              (λ w. let v = e.0 (⊎_elim (λ x. x) absurd w.1) in
-                  let t = g.1 (w.0, v.0) in ⊎_elim (λ x. inl (t, x)) (λ x. inr (t, x)) v.1),
-              ⊎_elim
-                  (λ w. let t = g.0 w.0 in (t.0, inl (e.1 (t.1, inl w.1))))
-                  (λ w. let t = g.0 w.0 in (t.0, inl (e.1 (t.1, inr w.1)))),
-            )
+        root_wants p l inner old new mid then (subst (λ (n : Node). Stepped n l old new inner mid) w.1 st) (br.adds (branches_of p) (branches p w.1) w.2)
 
 -- a walk of the whole tree from the root
-pub whole_walked : (ns : List Node) (l : ℕ) (old new : List ℕ) (r : ℕ) (then : List ℕ) (live : Bool) → T live → Walked ns 0 l 1 live old new r then
+pub whole_walked : (ns : List Node) (l : ℕ) (old new : SetRow) (r : ℕ) (then : SetRow) → Walked ns 0 (Some l) 1 old new r then
     → (p : Tree) → Stands ns 0 (listing p) → Adds new then (Wants p l (in_table old))
-whole_walked ns l old new r then live t w p h = adds_same
-    (w.adds (p ∷ []) refl (subst⁻¹ (Stands ns 0) (alone p) h)) (λ f. ((λ x. (t, inl x)), λ x. ⊎_elim (λ y. y) absurd x.1))
+whole_walked ns l old new r then w p h = adds_same
+    (w.adds (p ∷ []) refl (subst⁻¹ (Stands ns 0) (alone p) h)) (λ f. (inl, ⊎_elim (λ x. x) absurd))

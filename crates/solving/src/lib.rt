@@ -7,13 +7,14 @@ mod rounds;
 mod table;
 mod walk;
 
+ghost use Rattle.std.specs.Prelude.{◌≡◌};
 ghost use Rattle.reading.specs.Plan.{plan_in};
-ghost use Rattle.solving.specs.Solve.{Solves};
+ghost use Rattle.solving.specs.Solve.{Solves, empty_solution, refused_by};
 
 use limits::{BINDER_SETS, LEVEL_SETS};
 use lines::Head;
 use reading::Refusal;
-use rounds::{refused, settle};
+use rounds::settle;
 use sets::Set;
 
 // No plan's count of rounds is higher.
@@ -27,6 +28,19 @@ pub struct Solution {
     pub outs: [Set; LEVEL_SETS],
 }
 
+impl Solution {
+    // The solution without a member in any set.
+    pub(crate) fn empty() -> Solution
+        ensures { result ≡ empty_solution }
+    {
+        Solution {
+            binders: [sets::empty(); BINDER_SETS],
+            ins: [sets::empty(); LEVEL_SETS],
+            outs: [sets::empty(); LEVEL_SETS],
+        }
+    }
+}
+
 // What solving a text answers. A refused text has no head, no count and no member in any set.
 #[derive(Clone, Copy)]
 pub struct Solved {
@@ -36,18 +50,43 @@ pub struct Solved {
     pub solution: Solution,
 }
 
+// The answer under a refusal: nothing but its number and line.
+fn refused(refusal: Refusal) -> Solved
+    ensures { result ≡ refused_by refusal }
+{
+    Solved {
+        refusal,
+        head: Head {
+            channels: 0,
+            binders: 0,
+            top: 0,
+            names: 0,
+        },
+        count: 0,
+        solution: Solution::empty(),
+    }
+}
+
 // Solves a plan's text within an allowance of rounds: the refusal; or the count and the least acceptable solution.
 pub fn solve(text: &[u8], allowance: u16) -> Solved
     ensures { Solves (plan_in text.now) allowance result }
 {
     let reading = reading::read(text);
-    let refusal = reading.refusal;
-    let number = refusal.number;
-    if number != 0 {
-        return refused(refusal);
+    // No Result: a reading says by the number 0 that it is a plan, and so does an answer, as document 01 has it.
+    if reading.refusal.number != 0 {
+        return refused(reading.refusal);
     }
-    let head = reading.head;
-    let nodes = reading.nodes;
-    let offers = reading.offers;
-    settle(head, nodes, offers, allowance)
+    match settle(&reading.nodes, &reading.offers, allowance) {
+        // The count exceeds the allowance.
+        None => refused(Refusal {
+            number: 14,
+            line: 0,
+        }),
+        Some((count, solution)) => Solved {
+            refusal: reading.refusal,
+            head: reading.head,
+            count,
+            solution,
+        },
+    }
 }

@@ -1,6 +1,6 @@
 // The sets of a solution in one table, so that a round lends two arrays and no more: the binders' sets, then the in sets and
 // then the out sets, those of a level side by side.
-ghost use Rattle.std.specs.Prelude.{◌≡◌, ◌<◌, length};
+ghost use Rattle.std.specs.Prelude.{◌≡◌, ◌<◌};
 ghost use Rattle.limits.specs.Limits.{most_channels, levels};
 ghost use Rattle.sets.specs.Set.{Has, Members, Narrow, Decides};
 ghost use Rattle.sets.specs.Rows.{empty_row, Joins, Over};
@@ -12,9 +12,9 @@ use limits::{BINDER_SETS, CHANNEL_SETS, LEVEL_SETS, LEVELS};
 use lines::Marker;
 use sets::Set;
 
-// Where the in sets begin, and the out sets.
+// Where the in sets begin.
 const INS: usize = BINDER_SETS;
-
+// Where the out sets begin.
 const OUTS: usize = INS + LEVEL_SETS;
 // The sets of a table.
 const TABLE_SETS: usize = OUTS + LEVEL_SETS;
@@ -23,6 +23,7 @@ const TABLE_SETS: usize = OUTS + LEVEL_SETS;
 pub(crate) type Table = [Set; TABLE_SETS];
 
 // Where the in sets of a level begin.
+// That a level is below 8 is asked here and above, and is no type's: nodes hold levels as plain numbers, which only the plan bounds.
 pub(crate) fn ins_at(level: u8) -> usize
     requires { level < levels }
     ensures { result ≡ ins_at level }
@@ -31,6 +32,7 @@ pub(crate) fn ins_at(level: u8) -> usize
 }
 
 // Where the out sets of a level begin.
+// Beside `ins_at`: one function of both starts would be no shorter, and say less where it is called.
 pub(crate) fn outs_at(level: u8) -> usize
     requires { level < levels }
     ensures { result ≡ outs_at level }
@@ -42,73 +44,56 @@ pub(crate) fn outs_at(level: u8) -> usize
 pub(crate) fn empty() -> Table
     ensures { result ≡ empty_row table_size }
 {
-    let none = sets::empty();
-    [none; TABLE_SETS]
+    [sets::empty(); TABLE_SETS]
 }
 
 // S(x), the set of a marker.
 pub(crate) fn set_of(x: Marker, table: &Table) -> Set
-    requires { MarkerFits x × (length table.now ≡ table_size) }
+    requires { MarkerFits x }
     ensures members { Members result (SetOf (in_table table.now) x) }
     ensures narrow { Narrow most_channels result }
 {
     match x {
         Marker::Channel(c) => sets::single(c as u32),
-        Marker::Binder(b) => {
-            let i = b as usize;
-            sets::rows::at(table, i)
-        }
+        Marker::Binder(b) => sets::rows::at(table, b as usize),
     }
 }
 
 // What has been sent on any channel of `channels`, at any level: the union of their out sets.
-pub(crate) fn sent(table: &Table, channels: Set) -> Set
-    requires { length table.now ≡ table_size }
+fn sent(table: &Table, channels: Set) -> Set
     ensures { Members result (Sent table.now levels (Has channels)) }
 {
     let mut all = sets::empty();
-    let mut level: u8 = 0;
-    while level < LEVELS {
-        let here = sets::rows::together(table, outs_at(level), channels);
-        all = sets::union(all, here);
-        level += 1;
+    for level in 0..LEVELS {
+        all = sets::union(all, sets::rows::together(table, outs_at(level), channels));
     }
     all
 }
 
 // Whether anybody has sent on any channel of `channels`.
 pub(crate) fn heard(table: &Table, channels: Set) -> bool
-    requires { length table.now ≡ table_size }
     ensures { Decides result (Sounding table.now (Has channels)) }
 {
-    let all = sent(table, channels);
-    !sets::is_empty(all)
+    !sets::is_empty(sent(table, channels))
 }
 
 // What has been sent in `old`, at any level, on each channel of `channels` is joined to the channel's in set at `level` in `new`.
 pub(crate) fn gather(new: &mut Table, level: u8, channels: Set, old: &Table)
-    requires { (level < levels) × (length new.old ≡ table_size) × (length old.now ≡ table_size) }
-    ensures joins { Joins new.old new.new (Over (ins_at level) (Has channels) (SentOn old.now levels)) }
-    ensures len { length new.new ≡ table_size }
+    requires { level < levels }
+    ensures { Joins new.old new.new (Over (ins_at level) (Has channels) (SentOn old.now levels)) }
 {
-    let mut from: u8 = 0;
-    while from < LEVELS {
+    for from in 0..LEVELS {
         sets::rows::merge(new, ins_at(level), old, outs_at(from), channels);
-        from += 1;
     }
 }
 
 // The table's sets as a solution.
 pub(crate) fn solution_of(table: &Table) -> Solution
-    requires { length table.now ≡ table_size }
     ensures { Unpacked table.now result }
 {
-    let none = sets::empty();
-    let mut binders = [none; BINDER_SETS];
-    sets::rows::copy(&mut binders, table, 0);
-    let mut ins = [none; LEVEL_SETS];
-    sets::rows::copy(&mut ins, table, INS);
-    let mut outs = [none; LEVEL_SETS];
-    sets::rows::copy(&mut outs, table, OUTS);
-    Solution { binders, ins, outs }
+    let mut solution = Solution::empty();
+    solution.binders.copy_from_slice(&table[..INS]);
+    solution.ins.copy_from_slice(&table[INS..OUTS]);
+    solution.outs.copy_from_slice(&table[OUTS..]);
+    solution
 }

@@ -5,55 +5,43 @@ use crate::clauses::clause;
 use crate::table::Table;
 use limits::MOST_NODES;
 use lines::Node;
+use reading::branches_of;
 
-// Walks the tree whose root stands at `at`, adds what it wants, and says where it ends.
+// Walks the tree whose root stands at `at`, adds what it wants if it has a level, and says where it ends.
 #[cycle(walk)]
 pub(crate) fn walk_node(
     depth: usize,
-    nodes: [Node; MOST_NODES],
+    nodes: &[Node; MOST_NODES],
     at: usize,
-    level: u8,
-    live: bool,
+    level: Option<u8>,
     old: &Table,
     new: &mut Table,
 ) -> usize
-    requires { Ready depth nodes at level 1 old.now new.old }
-    ensures { Walked nodes at level 1 live old.now new.old result new.new }
+    requires { Ready depth nodes.now at level 1 }
+    ensures { Walked nodes.now at level 1 old.now new.old result new.new }
 {
-    let step = clause(nodes[at], level, live, old, new);
-    walk_branches(
-        depth - 1,
-        nodes,
-        at + 1,
-        step.level,
-        step.live,
-        step.branches,
-        old,
-        new,
-    )
+    let node = nodes[at];
+    let inner = clause(node, level, old, new);
+    walk_branches(depth - 1, nodes, at + 1, inner, branches_of(node), old, new)
 }
 
-// Walks a node's branches, none, one or two: the first at `at`, the second where the first ends.
+// Walks so many branches, the first at `at` and each other where the one before ends, and says where the last ends.
 #[cycle(walk)]
 fn walk_branches(
     depth: usize,
-    nodes: [Node; MOST_NODES],
+    nodes: &[Node; MOST_NODES],
     at: usize,
-    level: u8,
-    live: bool,
+    level: Option<u8>,
     branches: u8,
     old: &Table,
     new: &mut Table,
 ) -> usize
-    requires { Ready depth nodes at level branches old.now new.old }
-    ensures { Walked nodes at level branches live old.now new.old result new.new }
+    requires { Ready depth nodes.now at level branches }
+    ensures { Walked nodes.now at level branches old.now new.old result new.new }
 {
-    if branches == 0 {
-        return at;
+    let mut next = at;
+    for _ in 0..branches {
+        next = walk_node(depth, nodes, next, level, old, new);
     }
-    let next = walk_node(depth, nodes, at, level, live, old, new);
-    if branches == 1 {
-        return next;
-    }
-    walk_node(depth, nodes, next, level, live, old, new)
+    next
 }

@@ -2,24 +2,14 @@
 -- Assumes nothing.
 use Rattle.reading.specs.Plan.{plan_in}
 use Rattle.reading.proofs.Promise.{kept}
-use Rattle.solving.proofs.Readings.{refusal_solves, reading_spelled, plan_solves}
+use Rattle.solving.proofs.Readings.{plan_nodes, plan_exceeds, plan_answered}
 use Rattle.solving.proofs.solve.Goals as goal
 
-pub returns-then-number-ne0 : goal.returns-then-number-ne0
-returns-then-number-ne0 c =
-    let q = c.read-reading in
-    let a = c.args in
-    refusal_solves (plan_in a.text.now) q.result a.allowance c.refused.result q.ensures c.if-number-ne0.true c.refused.ensures
-
 pub settle-requires : goal.settle-requires
-settle-requires c =
-    let q = c.read-reading in
-    let text = c.args.text.now in
-    reading_spelled (plan_in text) q.result (kept text) q.ensures c.if-number-ne0.false
+settle-requires c = plan_nodes (plan_in c.args.text.now) _ c.args.allowance (kept _) c.read-reading.ensures c.if-reading-ne0.false
 
-pub returns : goal.returns
-returns c =
-    let q = c.read-reading in
-    let a = c.args in
-    plan_solves (plan_in a.text.now) q.result a.allowance c.settle.result (kept a.text.now) q.ensures
-    c.if-number-ne0.false c.settle.ensures
+pub returns-in-None : goal.returns-in-None
+returns-in-None c = rw c.refused-in-None.ensures (plan_exceeds _ _ _ (kept _) c.read-reading.ensures c.if-reading-ne0.false c.in-None.ensures)
+
+pub returns-in-Some : goal.returns-in-Some
+returns-in-Some c = plan_answered _ _ _ (kept _) c.read-reading.ensures c.if-reading-ne0.false _ _ c.in-Some.ensures

@@ -1,62 +1,40 @@
--- After so many rounds the table holds what the definition's rounds give, and none of them was idle; the measure is what is
--- left of the allowance.
+-- After so many rounds the table holds what the definition's rounds give, and none of them was idle.
 -- Assumes nothing.
-use mathlib.Core.Path.{◌≡◌, refl, sym, subst, subst⁻¹, ap, ◌∙◌}
-use mathlib.Core.Logic.{inl, inr}
+use Prim.Native.Nat.{◌-◌, ◌+◌}
+use mathlib.Core.Path.{◌≡◌, refl, subst, subst⁻¹}
+use mathlib.Core.Logic.{◌≢◌}
 use native.Mathlib.Omega.{arith}
+use borrow.Author.Rules.{rules}
 use lib.ListN.{length}
-use Rattle.sets.specs.Rows.{SetRow}
-use Rattle.sets.proofs.SameRows.{empty_length}
 use Rattle.solving.specs.inner.Table.{table_size}
 use Rattle.solving.proofs.Leastness.{busy_exceeds}
 use Rattle.solving.proofs.Settling.{Reached, reached_none, reached_more, settled_if, answered_by}
 use Rattle.solving.proofs.rounds.settle.Goals as goal
 
 pub loop-count-init : goal.loop-count-init
-loop-count-init c =
-    let e = c.empty-table.ensures in
-    (omega arith, ap (λ (t : SetRow). length t) e ∙ empty_length table_size, λ p h. subst⁻¹ (Reached p 0) e (reached_none p))
+loop-count-init c = λ p h. subst⁻¹ (Reached p 0) c.empty-table.ensures (reached_none p)
 
-pub round-next-requires : goal.round-next-requires
-round-next-requires c =
-    (c.args.offers, c.requires.0, c.requires.2)
-
-pub slice_bounds-same-end : goal.slice_bounds-same-end
-slice_bounds-same-end c = sym c.round-next.ensures.sized
-
-pub slice_bounds-same-end-in-loop-count : goal.slice_bounds-same-end-in-loop-count
-slice_bounds-same-end-in-loop-count c = sym c.loop-count.invariant.1
-
-pub solution_of-requires : goal.solution_of-requires
-solution_of-requires c = c.loop-count.invariant.1
-
-pub returns-then-same : goal.returns-then-same
-returns-then-same c =
-    let round = c.round-next in
+pub returns-then-eq : goal.returns-then-eq
+returns-then-eq c = λ p s.
     let at = c.loop-count in
-    let a = c.args in
-    λ p h s.
-    let r = at.invariant.2 p s in
-    let same = c.same.ensures.yes c.if-same.true in
-    let settled = settled_if p at.count at.table round.result r (round.ensures.adds p s) same in
-    inl (answered_by p a.allowance at.count at.table _ s.within r settled (omega arith) refl h refl c.solution_of.ensures)
+    let r = at.invariant p s in
+    let same : c.round-next.result ≡ at.table = search rules in
+    let settled = settled_if p _ at.table _ r (c.round-next.ensures p s) same in
+    answered_by p _ _ at.table _ s.within r settled (omega arith) refl refl (omega arith) c.solution_of.ensures
 
 pub loop-count-preserved : goal.loop-count-preserved
-loop-count-preserved c =
-    let round = c.round-next in
+loop-count-preserved c = λ p s.
     let at = c.loop-count in
-    let z = c.round-next.ensures.sized in
-    let other = c.same.ensures.no c.if-same.false in (
-      omega arith,
-      omega (arith, z, at.invariant.1),
-      λ p h. reached_more p at.count at.table round.result (at.invariant.2 p h) (round.ensures.adds p h) z at.invariant.1 other,
-    )
+    let other : c.round-next.result ≢ at.table = search rules in
+    let long : length c.round-next.result ≡ table_size = search rules in
+    subst (λ n. Reached p n c.round-next.result) (let e : at.count - 1 + 1 ≡ at.count + 1 - 1 = omega arith in e)
+    (reached_more p _ at.table _ (at.invariant p s) (c.round-next.ensures p s) long other)
 
-pub returns : goal.returns
-returns c =
+pub returns-else-eq : goal.returns-else-eq
+returns-else-eq c = λ p s.
     let at = c.loop-count in
-    let a = c.args in
-    λ p h s.
-    let r : Reached p a.allowance at.table =
-    subst (λ n. Reached p n at.table) (let e : at.count ≡ a.allowance = omega arith in e) (at.invariant.2 p s) in
-    inr (record { exceeds = busy_exceeds p a.allowance r.busy; is = c.refused.ensures })
+    let other : c.round-next.result ≢ at.table = search rules in
+    let long : length c.round-next.result ≡ table_size = search rules in
+    let r = reached_more p _ at.table _ (at.invariant p s) (c.round-next.ensures p s) long other in
+    let all : at.count - 1 + 1 ≡ c.args.allowance = omega arith in
+    busy_exceeds p _ (rw all at r.busy)

@@ -10,6 +10,6 @@ use Rattle.solving.proofs.table.heard.Goals as goal
 pub returns : goal.returns
 returns c =
     let a = c.args in
-    let all = c.sent-all in
+    let all = c.sent in
     says_not c.is_empty.ensures (λ w e. e w.0 ((all.ensures.has w.0).1 w.1))
     (members_some all.result (Sent a.table.now levels (Has a.channels)) all.ensures)

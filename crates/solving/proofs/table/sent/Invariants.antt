@@ -1,13 +1,8 @@
--- After some levels the union is of what was sent at those.
+-- Behind some levels the union is of what was sent at those.
 -- Assumes nothing.
-use Prim.Native.Nat.{◌-◌, ◌≤◌}
-use Rattle.limits.specs.Limits.{levels}
 use Rattle.sets.specs.Set.{Has, Members}
 use Rattle.solving.specs.inner.Table.{Sent}
 use Rattle.solving.proofs.table.sent.Given as goal
 
 abbrev pub invariant-loop-level : goal.invariant-loop-level
-invariant-loop-level l = (l.level ≤ levels) × Members l.all (Sent l.table l.level (Has l.channels))
-
-abbrev pub decreases-loop-level : goal.decreases-loop-level
-decreases-loop-level l = levels - l.level
+invariant-loop-level l = Members l.all (Sent l.table l.level (Has l.channels))
