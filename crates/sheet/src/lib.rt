@@ -9,8 +9,6 @@ ghost use Rattle.sheet.specs.Sheet.{SheetFor};
 ghost use Rattle.sheet.specs.Write.{length_in, Wrote, Writes, IsWhole};
 
 use crate::answers::{length_of, put_answer};
-use std::fmt;
-use std::fmt::Display;
 
 mod answers;
 mod made;
@@ -23,16 +21,6 @@ pub use made::{LONGEST, Sheet};
 #[derive(Clone, Copy, Debug, PartialEq, Eq)]
 pub struct TooShort {
     pub needed: usize,
-}
-
-impl Display for TooShort {
-    fn fmt<W: fmt::Write>(&self, f: &mut fmt::Formatter<W>) -> fmt::Result {
-        write!(
-            f,
-            "the buffer is too short: the sheet needs {} bytes",
-            self.needed
-        )
-    }
 }
 
 // What writing a sheet returns: the length of the sheet, which is in the buffer.
