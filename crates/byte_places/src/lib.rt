@@ -53,7 +53,7 @@ fn head_in(text: &[u8], at: usize) -> Head
     }
 }
 
-// The place of the first of C, B, k and F that is outside its limits.
+// The place of the first of C, B, k and F that is outside its limits. The tests are those of `outside_limits` (lines), apart, since each has a place.
 fn limit_place(head: Head) -> usize
     ensures { result ≡ first_fault (limit_faults head) }
 {

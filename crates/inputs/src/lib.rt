@@ -84,7 +84,7 @@ pub fn of_input(asked: Asked, front: [u8; FRONT], size: usize) -> Sheet
     of_front(asked, &front, size)
 }
 
-// How many bytes the text of a record has, by its header's line: none if that is no header.
+// How many bytes the text of a record has, by its header's line: none, and no Option, if that is no header, since callers then read none.
 pub fn text_size(line: &[u8]) -> usize
     ensures { (result ≡ size_in (header_of line.now)) × (result ≤ longest_text) }
 {

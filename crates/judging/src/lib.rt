@@ -74,6 +74,7 @@ pub fn judge(text: &[u8], allowance: u16) -> Answer
     ensures { Judges (plan_in text.now) allowance result }
 {
     let solved = solving::solve(text, allowance);
+    // The number 0 says that there is no refusal, as document 01 has it.
     let verdict = if solved.refusal.number == 0 {
         verdict_of(&solved.solution, solved.head.top)
     } else {

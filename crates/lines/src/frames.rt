@@ -63,7 +63,7 @@ pub(crate) fn only(section: Section) -> Span
     }
 }
 
-// The sections from one that may be over to the tree.
+// The sections from one that may be over to the tree. Beside `only`, since the documents allow sections in these two ways.
 pub(crate) fn to_tree(section: Section) -> Span
     ensures { result ≡ to_tree section }
 {

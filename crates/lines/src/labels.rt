@@ -85,7 +85,8 @@ fn label_rule(head: Head, least: usize, label: Label) -> Result<Option<Label>, R
     Ok(Some(label))
 }
 
-// The label in the frame at `at`, of which `frame` is the table's row; or none, where the frame is of a later section and the labels are over.
+// The label in the frame at `at`, of which `frame` is the table's row; or none, where the frame is of a later section and the labels are over. Beside
+// `offer_in`, which ends so too: one function would need the rule as a closure, and be longer than both.
 pub(crate) fn label_in(
     text: &[u8],
     at: usize,

@@ -48,8 +48,8 @@ pub enum Node {
     Bracket(u8),
 }
 
-// The head's numbers: C channels, B binders, levels 0 to k (the top), F free names.
-#[derive(Clone, Copy)]
+// The head's numbers: C channels, B binders, levels 0 to k (the top), F free names. No field says that they keep the limits: a refused text's are zero.
+#[derive(Clone, Copy, Default)]
 pub struct Head {
     pub channels: u8,
     pub binders: u8,
@@ -58,7 +58,7 @@ pub struct Head {
 }
 
 // A free name and its channel.
-#[derive(Clone, Copy)]
+#[derive(Clone, Copy, Default)]
 pub struct FreeName {
     pub name: u8,
     pub channel: u8,
@@ -71,6 +71,7 @@ pub struct Offer {
     pub set: Set,
 }
 
+// The five operations differ in section, rule and what these take: one over both would be longer than they are, and say less.
 // What the line at `at` says as the first line.
 pub fn first_head(text: &[u8], at: usize) -> Result<Head, Reason>
     ensures { result ≡ first_head (rest_at text.now at) }

@@ -1,4 +1,5 @@
-// The rule of each frame over its bytes: the head (5, 6), a free name (7, 8), an offer (7, 8, 16), a node (7, 9).
+// The rule of each frame over its bytes: the head (5, 6), a free name (7, 8), an offer (7, 8, 16), a node (7, 9). What a rule needs it takes as parameters,
+// the head with `least` or the scope among them: a struct of them would be made anew for each line, and read no shorter.
 ghost use Rattle.std.specs.Prelude.{◌≡◌, length};
 ghost use Rattle.text.specs.Positions.{bytes_at};
 ghost use Rattle.lines.specs.Rules.{outside_limits, head_of, head_in, name_rule, name_in, offer_rule, offer_in, pair_rule, receive_rule, restriction_rule, bracket_rule, node_in};
@@ -125,7 +126,7 @@ fn pair_rule(scope: Scope, x: u8, y: u8) -> Result<(Marker, Marker), Reason>
     Ok((m, n))
 }
 
-// A receive: x is looked up in the scope outside.
+// A receive: x is looked up in the scope outside. Beside `pair_rule`: here the second name is bound, and not looked up.
 fn receive_rule(head: Head, scope: Scope, x: u8, y: u8, binder: u8) -> Result<Node, Reason>
     ensures { result ≡ receive_rule head (meaning_in scope) x y binder }
 {
@@ -136,7 +137,7 @@ fn receive_rule(head: Head, scope: Scope, x: u8, y: u8, binder: u8) -> Result<No
     Ok(Node::Receive(m, y, binder))
 }
 
-// A restriction of a name to a channel.
+// A restriction of a name to a channel. `name_rule` makes these two tests as well: a function for them would be as long.
 fn restriction_rule(head: Head, x: u8, channel: u8) -> Result<Node, Reason>
     ensures { result ≡ restriction_rule head x channel }
 {

@@ -5,7 +5,7 @@ ghost use Rattle.lines.specs.Values.{meaning_in};
 
 use crate::{Marker, Node};
 
-// What names mean at a place of the tree: a place for each byte, since a name is one; none, where it means nothing.
+// What names mean at a place of the tree: a place for each byte, since a name is one; none, where it means nothing. An array and no map: memory is fixed.
 pub type Scope = [Option<Marker>; 256];
 
 // The scope in which no name means anything.

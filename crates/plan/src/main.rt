@@ -1,4 +1,4 @@
-// Prints the answer sheet of the plan on standard input.
+// Prints the answer sheet of the plan on standard input. `reaches` and `words` are programs of one line too, each for another sheet.
 #![tactic(auto)]
 
 use inputs::Asked;

@@ -6,7 +6,7 @@ ghost use Rattle.std.specs.Prelude.{◌≡◌, ◌++◌, ◌<◌};
 ghost use Rattle.putting.specs.Characters.{digit, hex_line};
 ghost use Rattle.putting.specs.Put.{Room, Put};
 
-// The character of a hexadecimal digit.
+// The character of a hexadecimal digit. By hand, here and in `put_line`: the library prints to a writer, and no contract says there which bytes stand where.
 #[tactic(auto, unfolding(crate::specs::Characters::digit))]
 fn digit(value: u8) -> u8
     requires { value < 16 }

@@ -30,7 +30,7 @@ fn put_place(buffer: &mut [u8], at: usize, handles: Set, place: usize, channel: 
     put_line(buffer, at, &[0x23, level, handle, channel])
 }
 
-// Puts the lines of all places at the buffer's start.
+// Puts the lines of all places at the buffer's start. Beside `put_row` (sheet): here a place has a level's set and a channel, there a set of its own.
 fn put_lines(buffer: &mut [u8], received: Received) -> usize
     requires { Room buffer.old 0 (hex_lines (reach_lines received.handles received.channels level_sets 0)) }
     ensures { Put buffer.old 0 (hex_lines (reach_lines received.handles received.channels level_sets 0)) buffer.new result }
@@ -48,6 +48,7 @@ fn put_received(buffer: &mut [u8], received: Received) -> usize
     requires { Room buffer.old 0 (reach_sheet_of received) }
     ensures { Put buffer.old 0 (reach_sheet_of received) buffer.new result }
 {
+    // The number 0 says that there is no refusal, as document 01 has it.
     if received.refusal.number != 0 {
         return sheet::put_refusal(buffer, received.refusal);
     }

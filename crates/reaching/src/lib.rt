@@ -12,7 +12,7 @@ use limits::{CHANNEL_SETS, LEVEL_SETS};
 use reading::Refusal;
 use sets::Set;
 
-// The levels that there are, # among them.
+// The levels that there are, # among them: the length of an array, and so a usize.
 pub const LEVELS: usize = limits::LEVELS as usize;
 
 // What each level may receive: a set of handles for each level, # the last, and for each level and handle the smallest channel on which the level
@@ -47,7 +47,7 @@ fn first_channel(ins: &[Set; LEVEL_SETS], level: usize, handle: usize) -> Option
         .position(|received| sets::has(*received, handle as u32))
 }
 
-// That channel for each level and handle, those of a level side by side, 0 where there is none.
+// That channel for each level and handle, those of a level side by side, 0 where there is none. Beside `handles_in`: another array, by another rule.
 fn channels_in(ins: &[Set; LEVEL_SETS]) -> [u8; LEVEL_SETS]
     ensures { ChannelsIn ins.now result }
 {

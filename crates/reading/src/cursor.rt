@@ -8,7 +8,8 @@ use crate::Refusal;
 use lines::Reason;
 use text::line_end;
 
-// The position of a line's start, and the line's number.
+// The position of a line's start, and the line's number. That it stands in the text is asked of each function and is no type's: it is a fact of both, and
+// the text is lent once to all.
 #[derive(Clone, Copy)]
 pub(crate) struct Cursor {
     pub(crate) at: usize,

@@ -12,7 +12,7 @@ use limits::MOST_LABELS;
 use lines::labels::{no_label, place_among};
 use lines::{Head, Label, Reason, next_label};
 
-// The labels read so far in text order, with the smallest place that may have one now.
+// The labels read so far in text order, with the smallest place that may have one now, in an array with their number beside it, since memory is fixed.
 #[derive(Clone, Copy)]
 pub(crate) struct Labels {
     pub(crate) cursor: Cursor,
@@ -21,7 +21,7 @@ pub(crate) struct Labels {
     pub(crate) labels: [Label; MOST_LABELS],
 }
 
-// No label yet.
+// No label yet. Each section begins so, with fields of its own: they share the cursor alone.
 pub(crate) fn fresh_labels(cursor: Cursor) -> Labels
     ensures { FreshLabels cursor result }
 {
@@ -52,7 +52,7 @@ fn is_repeated(before: &[Label], label: Label) -> bool
     false
 }
 
-// The labels that stand here, where none was read before.
+// The labels that stand here, where none was read before. A loop: it ends at a line, and counts nothing.
 pub(crate) fn read_labels(text: &[u8], head: Head, start: Labels) -> Result<Labels, Refusal>
     requires { StandsIn text.now start.cursor × HeadWithin head × FreshLabels start.cursor start }
     ensures { Lists text.now (read_labels head 0 [] start.cursor.line (rest_at text.now start.cursor.at)) result }

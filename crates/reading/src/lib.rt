@@ -52,19 +52,10 @@ pub struct Reading {
 fn refused(refusal: Refusal) -> Reading
     ensures { result ≡ reading_of (Err refusal) }
 {
-    let name = FreeName {
-        name: 0,
-        channel: 0,
-    };
     Reading {
         refusal,
-        head: Head {
-            channels: 0,
-            binders: 0,
-            top: 0,
-            names: 0,
-        },
-        names: [name; MOST_NAMES],
+        head: Head::default(),
+        names: [FreeName::default(); MOST_NAMES],
         offers: [sets::empty(); CHANNEL_SETS],
         labelled: 0,
         labels: [no_label(); MOST_LABELS],

@@ -10,7 +10,7 @@ use limits::MOST_NAMES;
 use lines::scope::{Scope, give, no_names};
 use lines::{FreeName, Head, Marker, next_name};
 
-// The free names read so far and the scope that they make.
+// The free names read so far and the scope that they make, in an array with their number beside it, since memory is fixed.
 #[derive(Clone, Copy)]
 pub(crate) struct Names {
     pub(crate) cursor: Cursor,
@@ -19,18 +19,14 @@ pub(crate) struct Names {
     pub(crate) scope: Scope,
 }
 
-// No free name yet.
+// No free name yet. Each section begins so, with fields of its own: they share the cursor alone.
 pub(crate) fn fresh_names(cursor: Cursor) -> Names
     ensures { FreshNames cursor result }
 {
-    let name = FreeName {
-        name: 0,
-        channel: 0,
-    };
     Names {
         cursor,
         count: 0,
-        names: [name; MOST_NAMES],
+        names: [FreeName::default(); MOST_NAMES],
         scope: no_names(),
     }
 }

@@ -18,7 +18,7 @@ pub(crate) struct Offers {
     pub(crate) row: [Set; CHANNEL_SETS],
 }
 
-// No offer yet.
+// No offer yet. Each section begins so, with fields of its own: they share the cursor alone.
 pub(crate) fn fresh_offers(cursor: Cursor) -> Offers
     ensures { FreshOffers cursor result }
 {

@@ -11,7 +11,7 @@ use limits::MOST_NODES;
 use lines::scope::{Scope, enter};
 use lines::{Head, Node, next_node};
 
-// The nodes read so far.
+// The nodes read so far, in an array with their number beside it, since memory is fixed.
 #[derive(Clone, Copy)]
 pub(crate) struct State {
     pub(crate) cursor: Cursor,
@@ -19,7 +19,7 @@ pub(crate) struct State {
     pub(crate) nodes: [Node; MOST_NODES],
 }
 
-// No node yet.
+// No node yet. Each section begins so, with fields of its own: they share the cursor alone.
 pub(crate) fn fresh_state(cursor: Cursor) -> State
     ensures { FreshState cursor result }
 {
@@ -67,7 +67,8 @@ pub(crate) fn read_node(
     }
 }
 
-// What was read before, with so many branches more: none, one, or two, the second where the first ended.
+// What was read before, with so many branches more: none, one, or two, the second where the first ended. A number and no closure: document 01 has a
+// node reader and a branch reader call each other.
 #[cycle(tree)]
 fn read_branches(
     text: &[u8],

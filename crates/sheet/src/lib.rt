@@ -49,7 +49,7 @@ pub fn length_in(written: Written) -> usize
     }
 }
 
-// The whole sheet of a text, within an allowance of rounds.
+// The whole sheet of a text, within an allowance of rounds. Each of the three sheets has such a function: only a blank array and the way out are theirs alike.
 pub fn whole(text: &[u8], allowance: u16) -> Sheet
     ensures { IsWhole SheetFor text.now allowance result }
 {
@@ -59,6 +59,7 @@ pub fn whole(text: &[u8], allowance: u16) -> Sheet
     Sheet { bytes, size }
 }
 
+// Beside `write`, which knows the length before there is a sheet.
 // Writes a whole sheet, whichever it is, from the buffer's start and changes nothing past it; a buffer that is too short stays as it is.
 pub fn copy(made: Sheet, buffer: &mut [u8]) -> Written
     ensures { Wrote (take made.size made.bytes) buffer.old result buffer.new }

@@ -4,7 +4,7 @@ ghost use Rattle.std.specs.Prelude.{◌≡◌, ◌≤◌, length, take};
 // The bytes that suffice for every sheet.
 pub const LONGEST: usize = 8128;
 
-// A whole sheet: its characters from the array's start, with zeros behind them, and how many they are.
+// A whole sheet: its characters from the array's start, with zeros behind them, and how many they are, since memory is fixed.
 #[derive(Clone, Copy)]
 pub struct Sheet {
     pub bytes: [u8; LONGEST],

@@ -56,18 +56,14 @@ fn refused(refusal: Refusal) -> Solved
 {
     Solved {
         refusal,
-        head: Head {
-            channels: 0,
-            binders: 0,
-            top: 0,
-            names: 0,
-        },
+        head: Head::default(),
         count: 0,
         solution: Solution::empty(),
     }
 }
 
-// Solves a plan's text within an allowance of rounds: the refusal; or the count and the least acceptable solution.
+// Solves a plan's text within an allowance of rounds: the refusal; or the count and the least acceptable solution. Text and allowance are two parameters,
+// here and above, as gateways and programs have them.
 pub fn solve(text: &[u8], allowance: u16) -> Solved
     ensures { Solves (plan_in text.now) allowance result }
 {

@@ -59,7 +59,7 @@ pub(crate) fn set_of(x: Marker, table: &Table) -> Set
     }
 }
 
-// What has been sent on any channel of `channels`, at any level: the union of their out sets.
+// What has been sent on any channel of `channels`, at any level: the union of their out sets. Beside `gather`: here sets are joined, and there rows.
 fn sent(table: &Table, channels: Set) -> Set
     ensures { Members result (Sent table.now levels (Has channels)) }
 {

@@ -15,7 +15,7 @@ fn is_digit(c: u8) -> bool
     matches!(c, b'0'..=b'9' | b'a'..=b'f')
 }
 
-// A digit's value, and 0 for any other character.
+// A digit's value, and 0 for any other character. Its ranges are those of `is_digit`: a value alone would not tell the digit 0.
 #[tactic(auto, unfolding(crate::specs::Text::value_of))]
 fn value(c: u8) -> u8
     ensures { (result ≡ value_of c) × (result < 16) }
@@ -77,7 +77,7 @@ pub fn is_faulty(text: &[u8], at: usize, end: usize) -> bool
     text.len() <= end || first_other(&text[at..end]).is_some() || odd_or_none(end - at)
 }
 
-// Byte number i of the line at `at`.
+// Byte number i of the line at `at`. By hand: the library reads no byte from two digits without an error of its own.
 #[tactic(auto, using(crate::proofs::Lines::byte_fits, crate::proofs::Lines::byte_at))]
 pub fn byte_in(text: &[u8], at: usize, i: usize) -> u8
     requires { i < length (bytes_at text.now at) }

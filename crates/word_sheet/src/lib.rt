@@ -33,7 +33,8 @@ const CHANNELS: Called = Called {
     word: b"channel ",
 };
 
-// Puts a number below 100 in decimal. Buffer and position stand apart, as `put_text` (putting) takes them.
+// Puts a number below 100 in decimal, by hand, since the library prints to a writer. That it has two digits the numbers of a breach show, which are bytes.
+// Buffer and position stand apart, as `put_text` (putting) takes them.
 fn put_decimal(buffer: &mut [u8], at: usize, number: u8) -> usize
     requires { TwoDigits number × (at + 2 ≤ length buffer.old) }
     ensures { Put buffer.old at (decimal number) buffer.new result }
