@@ -497,9 +497,14 @@ same 'asking: no branch and no loop' "$work/wanted" "$work/out"
 grep -oE '(^|[^A-Za-z0-9_])[0-9][0-9A-Za-z_]*' "$work/code" | tr -d ' [' | tr '\n' ' ' >"$work/out"
 printf '0u8 ' >"$work/wanted"
 same 'asking: no number' "$work/wanted" "$work/out"
-grep -c 'u64::MAX' crates/batch/src/main.rt >"$work/out"
+grep -c 'io::copy(from, &mut io::sink())?;' "$work/code" >"$work/out"
 echo 1 >"$work/wanted"
+same 'asking: the rest of the input is read and dropped' "$work/wanted" "$work/out"
+grep -c 'u64::MAX' crates/batch/src/main.rt >"$work/out"
 same 'batch: its turns are as many as a number can count' "$work/wanted" "$work/out"
+sed 's,//.*,,' crates/batch/src/main.rt | grep -owE 'while|loop|for' >"$work/out"
+echo for >"$work/wanted"
+same 'batch: one loop' "$work/wanted" "$work/out"
 
 # Fewer checks than these were made only if some are lost.
 [ $((passed + failed)) -ge 1108 ] || {

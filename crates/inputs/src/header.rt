@@ -14,7 +14,8 @@ pub(crate) struct Header {
 // The longest text of a record, in bytes.
 const LONGEST_TEXT: u32 = 65536;
 
-// A digit's value, if the character is one. Not the `value` of `text`: that gives every character of a line one.
+// A digit's value, if the character is one: 0-9 or a-f, and not A-F, which `to_digit` takes too. Not the `value` of `text`: that gives every character of
+// a line one.
 fn value(c: u8) -> Option<u32>
     ensures value { result ≡ digit_value c }
     ensures below { IfSome result (λ n. n < 16) }

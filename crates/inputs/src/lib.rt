@@ -26,7 +26,7 @@ pub enum Fault {
     AllowanceTooLarge,
 }
 
-// In a clause, as what is said of the record.
+// What is said of the record, as a clause with `it` or `its` for the record.
 impl fmt::Display for Fault {
     ghost output = { λ fault. Some (sentence_of fault) };
 
@@ -78,6 +78,7 @@ fn of_front(asked: Asked, front: &[u8], size: usize) -> Sheet
 
 // The sheet that is asked for of a whole input, with the most rounds that any plan takes, where `front` begins with as many bytes of the input
 // as it can hold, and these are `size`.
+// An array with a count, and no slice: an array has room for more than the longest text, which a slice would have to be asked for.
 pub fn of_input(asked: Asked, front: [u8; FRONT], size: usize) -> Sheet
     ensures { AnswersInput asked front size result }
 {
