@@ -10,6 +10,7 @@ use lib.Dec.{leb, ltb, eqb}
 use lib.ListN.{length}
 use borrow.Author.Tests.{eqb-false, leb-true, ltb-true, ltb-false, not-false}
 use Rattle.std.specs.Prelude.{Option, Some, None, Ok, Err, IfOk}
+use Rattle.lines.specs.declared.Head.{Head}
 use Rattle.lines.specs.declared.frames.Kind.{Kind}
 use Rattle.lines.specs.declared.frames.Kind.TheVariants.{Nil, Silent, Send, Receive, Sum, Parallel, Restriction, Match, Replication, Bracket}
 use Rattle.lines.specs.declared.frames.Frame.{Frame}
@@ -21,6 +22,8 @@ use Rattle.limits.specs.Limits.{longest_label}
 use Rattle.text.specs.Text.{Line, all_digits, odd_or_none, is_faulty, bytes_of, byte}
 use Rattle.text.specs.Positions.{bytes_at, end_at, line_at, rest_at}
 use Rattle.lines.specs.Frames.{rank, only, outside, Row, table, frame_from, frame_of, Judged, row_in, frame_for, frame_in}
+use Rattle.lines.specs.Scope.{Scope}
+use Rattle.lines.specs.Rules.{node_by, node_in}
 use Rattle.lines.specs.inner.Working.{IsRow, Framing}
 use Rattle.text.proofs.Tests.{or-false, and-true}
 use Rattle.text.proofs.Lines.{rest_none, rest_split, bytes_length, ended_at}
@@ -86,6 +89,10 @@ module _ (bytes : List ℕ) (row : Frame) (r : IsRow bytes row) where
   long_by_kind kind own e same =
       let asked : least_of (Some kind) ≤ row.least = rw (e, same) at (row_has (λ f. least_of f.kind ≤ f.least) (omega arith)) in
       omega arith
+
+  -- and its rule is that of the kind
+  pub rule_by_kind : (kind : Option Kind) → row.kind ≡ kind → (h : Head) (scope : Scope) → node_by kind h scope bytes ≡ node_in h scope row bytes
+  rule_by_kind kind e h scope = ap (λ k. node_by k h scope bytes) (sym e)
 
   -- a frame of a section has as many bytes
   by_section : (section : Section) (least most : ℕ) → Each (λ f. rank f.section ≡ rank section → (least ≤ f.least) × (f.most ≤ most)) table
