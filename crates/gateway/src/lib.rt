@@ -18,7 +18,7 @@ pub extern "C" fn hjaltropa_sheet(text: &[u8], allowance: u16, buffer: &mut [u8]
     length_in(sheet::write(text, allowance, buffer))
 }
 
-// The same for the reach sheet.
+// The same for the reach sheet. Three functions, since C has each by its name.
 #[unsafe(no_mangle)]
 pub extern "C" fn hjaltropa_reach(text: &[u8], allowance: u16, buffer: &mut [u8]) -> usize
     ensures { Answers ReachSheetFor text.now allowance buffer.old result buffer.new }

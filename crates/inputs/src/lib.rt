@@ -68,7 +68,7 @@ fn asked_of(asked: Asked, text: &[u8], allowance: u16) -> Sheet
     }
 }
 
-// The sheet of a whole input of which the front is lent, with room for more than the longest text.
+// The sheet of a whole input of which the front is lent, with room for more than the longest text; how much of it was read stands beside it.
 fn of_front(asked: Asked, front: &[u8], size: usize) -> Sheet
     requires { longest < length front.now }
     ensures { AnswersInput asked front.now size result }

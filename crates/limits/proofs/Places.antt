@@ -34,7 +34,7 @@ module _ (w : ℕ) where
       go (no a) (yes h) = absurd (omega (arith, below_level l j h))
       go (no a) (no b) = omega arith
 
-  -- a level and a channel are at a place of n levels
+  -- a level and a channel are at a place of n levels; here and below the library's laws of digits, in the words of levels and channels
   pub place_below : (n l c : ℕ) → l < n → c < w → l * w + c < n * w
   place_below n l c l_fits c_fits = digits_lt l_fits c_fits
 

@@ -1,5 +1,6 @@
 // The rule of each frame over its bytes: the head (5, 6), a free name (7, 8), an offer (7, 8, 16), a node (7, 9). What a rule needs it takes as parameters,
-// the head with `least` or the scope among them: a struct of them would be made anew for each line, and read no shorter.
+// the head with `least` or the scope among them: a struct of them would be made anew for each line, and read no shorter. How
+// long a frame is, by its row, is asked where its bytes are read: it is a fact of the text and a position in it.
 ghost use Rattle.std.specs.Prelude.{◌≡◌, length};
 ghost use Rattle.text.specs.Positions.{bytes_at};
 ghost use Rattle.lines.specs.Rules.{outside_limits, head_of, head_in, name_rule, name_in, offer_rule, offer_in, pair_rule, receive_rule, restriction_rule, bracket_rule, node_in};

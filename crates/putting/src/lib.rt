@@ -1,5 +1,6 @@
 // Puts lines and characters into a buffer from a position on. Each function returns the position behind what it put. Steps of proved writers,
 // which know that there is room: no caller outside calls them.
+// Buffer and position are two parameters: a caller keeps the position, and lends the buffer.
 #![tactic(auto)]
 
 ghost use Rattle.std.specs.Prelude.{◌≡◌, ◌++◌, ◌<◌};

@@ -67,6 +67,7 @@ pub fn whole(text: &[u8], allowance: u16) -> Sheet
     Sheet { bytes, size }
 }
 
+// One line over `whole`, as in `word_sheet`.
 // Writes the reach sheet of a text, within an allowance of rounds, from the buffer's start and changes nothing past it; a buffer that is too short
 // stays as it is.
 pub fn write(text: &[u8], allowance: u16, buffer: &mut [u8]) -> Written

@@ -17,7 +17,7 @@ pub const LEVELS: usize = limits::LEVELS as usize;
 
 // What each level may receive: a set of handles for each level, # the last, and for each level and handle the smallest channel on which the level
 // may receive it, 0 where it may not. A refused text has nothing received.
-// 0 and no Option: the contract of `reach` names it (`none` of `ReachOf`), and the handle's set tells it from channel 0.
+// Two arrays, as `ReachOf` speaks of them. 0 and no Option: the contract of `reach` names it (`none` of `ReachOf`), and the handle's set tells it from channel 0.
 #[derive(Clone, Copy)]
 pub struct Received {
     pub refusal: Refusal,

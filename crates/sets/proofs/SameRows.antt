@@ -1,4 +1,4 @@
--- Rows of empty sets hold nothing, and rows whose sets are the same are one. Assumes nothing.
+-- Rows of empty sets hold nothing, and rows whose sets are the same are one: the library's laws of lists, in the words of rows. Assumes nothing.
 use Prim.Native.Nat.{ℕ, ◌<◌}
 use mathlib.Core.Path.{◌≡◌, subst}
 use native.Mathlib.Decide.{dec_lt}

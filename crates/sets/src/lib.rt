@@ -29,7 +29,7 @@ pub fn every() -> Set
     u32::MAX
 }
 
-// Whether `channel` is a member of `set`.
+// Whether `channel` is a member of `set`. A channel is a number here and below, and no type of its own: those above count with it.
 pub fn has(set: Set, channel: u32) -> bool
     requires { channel < most_channels }
     ensures { result ≡ is_member set channel }
@@ -104,7 +104,7 @@ pub fn bytes(set: Set) -> [u8; 4]
     set.to_be_bytes()
 }
 
-// The set of four bytes, high byte first.
+// The set of four bytes, high byte first. Four parameters and no array: callers pick them out of a line one by one.
 pub fn of_bytes(first: u8, second: u8, third: u8, fourth: u8) -> Set
     ensures { result ≡ set_of_bytes first second third fourth }
 {

@@ -10,7 +10,8 @@ use putting::put_line;
 use sets::Set;
 use solving::Solution;
 
-// Whose sets a row has: the binders', or those of each level and channel, received or sent. Its lines begin with its number.
+// Whose sets a row has: the binders', or those of each level and channel, received or sent. Its lines begin with its number. An enum and no closure: the
+// definitions of a row's lines go by it.
 #[derive(Clone, Copy)]
 enum Part {
     Binders = 0x20,

@@ -18,6 +18,7 @@ use Rattle.solving.proofs.WantedLists.{listed, round_wanted_lem}
 
 -- ---- tests on facts
 
+-- the library's law of two tests speaks of `≡ true`, and here a test is `T`
 pub both_is : (a b : Bool) → T (a && b) ↔ (T a × T b)
 both_is true b = (λ t. (tt, t), λ w. w.1)
 both_is false b = (absurd, λ w. w.0)

@@ -1,4 +1,5 @@
--- Membership in the lists that the computed rounds build. Assumes nothing.
+-- Membership in the lists that the computed rounds build, by their own words `each`, `when` and `if_some`: the library's laws would need these unfolded
+-- first. Assumes nothing.
 use Prim.Native.Nat.{ℕ}
 use mathlib.Core.Bool.{Bool, true, false}
 use mathlib.Core.Path.{◌≡◌, refl, subst, subst⁻¹}

@@ -1,4 +1,5 @@
--- Sums over the numbers below a bound: how large they are, and that they grow where a part grows.
+-- Sums over the numbers below a bound: how large they are, and that they grow where a part grows. The library's sums go over lists: here the terms are a
+-- function's, and no list is made of them.
 -- Assumes nothing.
 use Prim.Native.Nat.{ℕ, zero, suc, ◌+◌, ◌*◌, ◌<◌, ◌≤◌}
 use mathlib.Core.Path.{◌≡◌, subst}
