@@ -41,8 +41,8 @@ module _ {before : List ℕ} {at : ℕ} {xs buffer : List ℕ} {next : ℕ} (i :
       (left_store (next + 1) (omega arith) (subst (Left before at xs buffer next) (line_from bytes i h) l))
 
   -- the line feed
-  pub line_end : length bytes ≤ i → Put before at xs (set buffer next line_feed) (next + 1)
+  pub line_end_lem : length bytes ≤ i → Put before at xs (set buffer next line_feed) (next + 1)
   unfolding hex_line
-  line_end h =
+  line_end_lem h =
       let last : Left before at xs buffer next (line_feed ∷ []) = subst (λ s. Left before at xs buffer next (hex_line s)) (drop_of_length-le bytes h) l in
       left_none (left_store (next + 1) (omega arith) last)

@@ -17,9 +17,6 @@ pub record Left (before : List ℕ) (at : ℕ) (xs : List ℕ) (buffer : List �
   pub reach : next + length rest ≡ at + length xs
   pub size : length buffer ≡ length before
 
-pub left_all : (before : List ℕ) (at : ℕ) (xs : List ℕ) → Left before at xs before at xs
-left_all before at xs = record { same = refl; reach = refl; size = refl }
-
 module _ {before : List ℕ} {at : ℕ} {xs buffer : List ℕ} {next : ℕ} where
   pub left_none : Left before at xs buffer next [] → Put before at xs buffer next
   left_none l = record { stands = l.same; behind = omega arith; size = l.size }
@@ -42,10 +39,7 @@ module _ {before : List ℕ} {at : ℕ} {xs buffer : List ℕ} {next : ℕ} wher
     size = p.size ∙ l.size;
   }
 
-  -- there is room for what is left, and for its first part
-  pub left_room : {rest : List ℕ} → Room before at xs → Left before at xs buffer next rest → Room buffer next rest
-  left_room r l = record { fits = omega (arith, r.fits, l.reach, l.size) }
-
+  -- there is room for the first part of what is left
   pub left_room_first : (ys rest : List ℕ) → Room before at xs → Left before at xs buffer next (ys ++ rest) → Room buffer next ys
   left_room_first ys rest r l = record { fits = omega (arith, r.fits, l.reach, l.size, length-append ys rest) }
 

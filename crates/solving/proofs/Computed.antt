@@ -6,13 +6,14 @@ use mathlib.Core.Path.{◌≡◌, refl, subst, subst⁻¹}
 use mathlib.Core.List.{List, [], ◌∷◌}
 use mathlib.Core.Logic.{◌↔◌, ◌⊎◌, inl, inr, ⊎_elim}
 use native.Mathlib.Omega.{arith}
+use Rattle.std.specs.Prelude.{Some, None}
 use native.Mathlib.Decide.{ℕ_discrete}
 use lib.Dec.{T, eqb, eqb→eq, eqb_refl}
 use Rattle.sets.proofs.Listed.{Mem}
 use Rattle.reading.specs.Plan.{Plan}
 use Rattle.solving.specs.Solutions.{Fact, binder_set, in_set, out_set}
 use Rattle.solving.specs.Rounds.{Wanted, Settled, after, Count}
-use Rattle.solving.specs.inner.Compute.{round_wanted, same_fact, has_fact, add_all, all_in, Run, unfinished, settled, run}
+use Rattle.solving.specs.inner.Compute.{round_wanted, same_fact, has_fact, add_all, all_in, Run, run}
 use Rattle.solving.proofs.Acceptance.{wanted_grows}
 use Rattle.solving.proofs.WantedLists.{listed, round_wanted_lem}
 
@@ -117,8 +118,8 @@ module _ (p : Plan) (n : ℕ) (s : List Fact) (e : (f : Fact) → after p n f �
 
 -- what a run says, where it may go up to `limit` rounds
 abbrev pub RunIs : Plan → ℕ → Run → Type 0
-RunIs p limit unfinished = (j : ℕ) → j < limit → Settled p (after p j) → ⊥
-RunIs p limit (settled n s) = (c : Count p n) × (n ≤ limit) × ((f : Fact) → after p c.earlier f ↔ Mem f s)
+RunIs p limit None = (j : ℕ) → j < limit → Settled p (after p j) → ⊥
+RunIs p limit (Some (n, s)) = (c : Count p n) × (n ≤ limit) × ((f : Fact) → after p c.earlier f ↔ Mem f s)
 
 pub run_is : (p : Plan) (left n limit : ℕ) (s : List Fact) → n + left ≡ limit → ((f : Fact) → after p n f ↔ Mem f s)
     → ((j : ℕ) → j < n → Settled p (after p j) → ⊥) → RunIs p limit (run p left n s)
@@ -129,7 +130,7 @@ run_is p (suc left) n limit s e h b = go (all_in (round_wanted p s) s) refl
   where
     go : (q : Bool) → all_in (round_wanted p s) s ≡ q
         → (((j : ℕ) → j < suc n → Settled p (after p j) → ⊥) → RunIs p limit (run p left (suc n) (add_all s (round_wanted p s))))
-        → RunIs p limit (elim q [ true ↦ settled (suc n) s | false ↦ run p left (suc n) (add_all s (round_wanted p s)) ])
+        → RunIs p limit (elim q [ true ↦ Some (suc n, s) | false ↦ run p left (suc n) (add_all s (round_wanted p s)) ])
     go true q r = (record { earlier = n; is = refl; settled = (quiet_is p n s h).0 (subst⁻¹ T q tt); first = b }, omega arith, h)
     go false q r = r (λ j l i. split j l i (ℕ_discrete j n))
       where

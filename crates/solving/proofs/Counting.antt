@@ -7,6 +7,7 @@ use mathlib.Core.List.{List, []}
 use mathlib.Core.Logic.Iff
 use mathlib.Core.Logic.{◌↔◌, inl, inr}
 use native.Mathlib.Omega.{arith}
+use Rattle.std.specs.Prelude.{Some, None}
 use native.Mathlib.Decide.{dec_le}
 use native.Mathlib.Nat.{mul-le-mul}
 use lib.Dec.{T}
@@ -18,7 +19,7 @@ use Rattle.reading.specs.Plan.{Plan}
 use Rattle.reading.specs.Promise.{PlanWithin}
 use Rattle.solving.specs.Solutions.{Fact}
 use Rattle.solving.specs.Rounds.{Settled, after, Count, most_rounds, round_ceiling}
-use Rattle.solving.specs.inner.Compute.{round_wanted, has_fact, add_all, Run, unfinished, settled, run}
+use Rattle.solving.specs.inner.Compute.{round_wanted, has_fact, add_all, Run, run}
 use Rattle.solving.proofs.Computed.{has_is, one_more, RunIs, whole_run}
 use Rattle.solving.proofs.Ranges.{after_within}
 use Rattle.solving.proofs.Sizes.{Test, size, size_le, size_less}
@@ -75,8 +76,8 @@ module _ (p : Plan) (g : PlanWithin p) where
   count_exists = go (run p (most_rounds p.head) 0 []) (whole_run p (most_rounds p.head))
     where
       go : (r : Run) → RunIs p (most_rounds p.head) r → (n : ℕ) × Count p n
-      go (settled n s) w = (n, w.0)
-      go unfinished w =
+      go (Some (n, s)) w = (n, w.0)
+      go None w =
           let a = grows (most_rounds p.head) w in
           let b = size_le p.head (test p (most_rounds p.head)) in
           absurd (omega arith)

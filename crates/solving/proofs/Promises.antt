@@ -6,7 +6,7 @@ use mathlib.Core.List.{List, []}
 use mathlib.Core.Logic.Iff
 use mathlib.Core.Logic.{◌↔◌, inl, inr}
 use native.Mathlib.Omega.{arith}
-use Rattle.std.specs.Prelude.{Ok, Err}
+use Rattle.std.specs.Prelude.{Some, None, Ok, Err}
 use Rattle.sets.proofs.Listed.{Mem}
 use Rattle.lines.specs.declared.Head.{Head}
 use Rattle.lines.specs.Promise.{HeadWithin}
@@ -19,7 +19,7 @@ use Rattle.solving.specs.Rounds.{after, Count, round_ceiling}
 use Rattle.solving.specs.Least.{Least, LeastArrays}
 use Rattle.solving.specs.Solve.{Answered, Solves, refused_by, over_allowance}
 use Rattle.solving.specs.Demand.{LeastAnswer, PlanDemand, Demand2}
-use Rattle.solving.specs.inner.Compute.{Run, unfinished, settled, run, solution_of, solved_by, solved_of}
+use Rattle.solving.specs.inner.Compute.{Run, run, solution_of, solved_by, solved_of}
 use Rattle.solving.proofs.Leastness.{count_least, count_unique, least_same, busy_exceeds}
 use Rattle.solving.proofs.Ranges.{after_within}
 use Rattle.solving.proofs.Computed.{RunIs, whole_run}
@@ -65,7 +65,7 @@ module _ (plan : Plan) (g : PlanWithin plan) (n : ℕ) (s : List Fact) (c : Coun
   computed_least : Least plan (members_in (solution_of s))
   computed_least = least_same plan (after plan c.earlier) (members_in (solution_of s)) members (count_least plan n c)
 
-  computed_answer : (allowance : ℕ) → n ≤ allowance → Answered plan allowance (solved_by plan.head (settled n s))
+  computed_answer : (allowance : ℕ) → n ≤ allowance → Answered plan allowance (solved_by plan.head (Some (n, s)))
   computed_answer allowance l = record {
     refusal = refl;
     head = refl;
@@ -76,7 +76,7 @@ module _ (plan : Plan) (g : PlanWithin plan) (n : ℕ) (s : List Fact) (c : Coun
     sized = solution_sized s;
   }
 
-  computed_demand : LeastAnswer plan n (solved_by plan.head (settled n s))
+  computed_demand : LeastAnswer plan n (solved_by plan.head (Some (n, s)))
   computed_demand = record {
     refusal = refl;
     head = refl;
@@ -90,8 +90,8 @@ outcome_computed (Err f) allowance g = refl
 outcome_computed (Ok plan) allowance g = go (run plan allowance 0 []) (whole_run plan allowance)
   where
     go : (r : Run) → RunIs plan allowance r → Solves (Ok plan) allowance (solved_by plan.head r)
-    go unfinished w = inr (record { exceeds = busy_exceeds plan allowance w; is = refl })
-    go (settled n s) w = inl (computed_answer plan g n s w.0 w.2 allowance w.1)
+    go None w = inr (record { exceeds = busy_exceeds plan allowance w; is = refl })
+    go (Some (n, s)) w = inl (computed_answer plan g n s w.0 w.2 allowance w.1)
 
 solves_computed : (o : Outcome Plan) (allowance : ℕ) (r : Solved) → Kept o → Solves o allowance r → r ≡ solved_of o allowance
 solves_computed o allowance r g s = solves_once o allowance r (solved_of o allowance) s (outcome_computed o allowance g)
@@ -127,11 +127,11 @@ plan_demand plan allowance r g e =
     go : (n : ℕ) → Count plan n → (q : Run) → RunIs plan allowance q
         → (n ≤ allowance → LeastAnswer plan n (solved_by plan.head q))
         × (allowance < n → solved_by plan.head q ≡ refused_by over_allowance)
-    go n c unfinished w = ((λ l. absurd (let z = busy_exceeds plan allowance w n c in omega arith)), λ l. refl)
-    go n c (settled m s) w =
+    go n c None w = ((λ l. absurd (let z = busy_exceeds plan allowance w n c in omega arith)), λ l. refl)
+    go n c (Some (m, s)) w =
         let u = count_unique plan m n w.0 c in
         let v = w.1 in (
-          (λ l. subst (λ k. LeastAnswer plan k (solved_by plan.head (settled m s))) u (computed_demand plan g m s w.0 w.2)),
+          (λ l. subst (λ k. LeastAnswer plan k (solved_by plan.head (Some (m, s)))) u (computed_demand plan g m s w.0 w.2)),
           λ l. absurd (omega arith),
         )
 

@@ -1,7 +1,7 @@
 -- From a reading to a solution: a good reading's nodes are those of the plan's tree, so what the rounds answer is what the text's
 -- outcome asks for. Only reading's promise is used. Assumes nothing.
-use Prim.Native.Nat.{ℕ, zero, suc, ◌+◌, ◌<◌}
-use mathlib.Core.Path.{◌≡◌, refl, ap, subst, subst⁻¹}
+use Prim.Native.Nat.{ℕ, ◌+◌}
+use mathlib.Core.Path.{◌≡◌, refl, ap, subst⁻¹}
 use mathlib.Core.List.{List, [], ◌∷◌, ◌++◌}
 use mathlib.Core.Logic.{inl, inr}
 use native.Mathlib.Omega.{arith}
@@ -19,7 +19,7 @@ use Rattle.reading.specs.Tree.{listing}
 use Rattle.solving.specs.declared.Solution.{Solution}
 use Rattle.solving.specs.declared.Solved.{Solved}
 use Rattle.solving.specs.Solve.{Solves, Answered, refused_by, over_allowance}
-use Rattle.solving.specs.inner.Walk.{node_at, Stands, Spells, IsPlan, Settles}
+use Rattle.solving.specs.inner.Walk.{Stands, Spells, IsPlan, Settles}
 
 -- nodes stand behind those before them
 stands_behind : (before xs rest : List Node) (i : ℕ) → i ≡ length before → Stands (before ++ (xs ++ rest)) i xs

@@ -20,7 +20,6 @@ use Rattle.lines.specs.declared.Node.{Node}
 use Rattle.reading.specs.Promise.{EachWithin, PlanWithin}
 use Rattle.reading.specs.Plan.{Plan, no_refusal}
 use Rattle.solving.specs.declared.Solution.{Solution}
-use Rattle.solving.specs.declared.Solved.{Solved}
 use Rattle.solving.specs.Solutions.{Fact, binder_set, in_set, out_set, members_in}
 use Rattle.solving.specs.Rounds.{Wanted, Settled, after, Count}
 use Rattle.solving.specs.Least.{Least}
@@ -160,19 +159,16 @@ module _ (p : Plan) (n : ℕ) (t u : SetRow) (r : Reached p n t) (a : Adds t u (
     (λ h. (a.adds f).1 (inl h)),
   )) x r.sized
 
-  pub reached_more : length u ≡ table_size → (u ≡ t → ⊥) → Reached p (n + 1) u
-  reached_more x d = record { holds = subst (λ k. (f : Fact) → after p k f ↔ in_table u f) one_more grown; busy = busier; sized = x }
+  pub reached_more : (m : ℕ) → m ≡ suc n → length u ≡ table_size → (u ≡ t → ⊥) → Reached p m u
+  reached_more m e x d = subst⁻¹ (λ k. Reached p k u) e (record { holds = grown; busy = busier; sized = x })
     where
-      one_more : suc n ≡ n + 1
-      one_more = omega arith
-
       grown : (f : Fact) → after p (suc n) f ↔ in_table u f
       grown f = (
         (λ h. (a.adds f).1 (⊎_elim (λ z. inl ((r.holds f).0 z)) (λ w. inr ((wanted_same f).0 w)) h)),
         (λ h. ⊎_elim (λ z. inl ((r.holds f).1 z)) (λ w. inr ((wanted_same f).1 w)) ((a.adds f).0 h)),
       )
 
-      busier : (j : ℕ) → j < n + 1 → Settled p (after p j) → ⊥
+      busier : (j : ℕ) → j < suc n → Settled p (after p j) → ⊥
       busier j l s = go (ℕ_discrete j n)
         where
           go : Dec (j ≡ n) → ⊥
@@ -181,24 +177,23 @@ module _ (p : Plan) (n : ℕ) (t u : SetRow) (r : Reached p n t) (a : Adds t u (
 
 -- ---- the answers
 
-pub answered_by : (p : Plan) (allowance n : ℕ) (t : SetRow) (r : Solved) → PlanWithin p → Reached p n t
-    → Settled p (after p n) → n < allowance → r.refusal ≡ no_refusal → r.head ≡ p.head → r.count ≡ n + 1 → Unpacked t r.solution
-    → Answered p allowance r
-answered_by p allowance n t r w e s l refusal head count u = record {
-  refusal = refusal;
-  head = head;
+pub answered_by : (p : Plan) (allowance n m : ℕ) (t : SetRow) (s : Solution) → PlanWithin p → Reached p n t → Settled p (after p n)
+    → m ≡ suc n → m ≤ allowance → Unpacked t s → Answered p allowance (record { refusal = no_refusal; head = p.head; count = m; solution = s })
+answered_by p allowance n m t s w e settled one_more allowed u = record {
+  refusal = refl;
+  head = refl;
   count = counted;
-  allowed = omega arith;
+  allowed = allowed;
   least = record { acceptable = least.acceptable; least = λ t. least.least (members_in t) };
-  within = λ f m. after_within p w n f ((members f).1 m);
+  within = λ f h. after_within p w n f ((members f).1 h);
   sized = u.sized;
 }
   where
-    counted : Count p r.count
-    counted = record { earlier = n; is = omega arith; settled = s; first = e.busy }
+    counted : Count p m
+    counted = record { earlier = n; is = one_more; settled = settled; first = e.busy }
 
-    members : (f : Fact) → after p n f ↔ members_in r.solution f
+    members : (f : Fact) → after p n f ↔ members_in s f
     members f = Iff.trans (e.holds f) (Iff.symm (u.same f))
 
-    least : Least p (members_in r.solution)
-    least = least_same p (after p n) (members_in r.solution) members (count_least p r.count counted)
+    least : Least p (members_in s)
+    least = least_same p (after p n) (members_in s) members (count_least p m counted)

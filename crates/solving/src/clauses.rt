@@ -74,6 +74,11 @@ pub(crate) fn clause(node: Node, level: Option<u8>, old: &Table, new: &mut Table
             bracketing(inner, level, old, new);
             Some(inner)
         }
-        _ => Some(level),
+        Node::Nil
+        | Node::Silent
+        | Node::Sum
+        | Node::Parallel
+        | Node::Restriction(_, _)
+        | Node::Replication => Some(level),
     }
 }

@@ -1,7 +1,7 @@
 -- Rounds that the checker computes with: a solution as the list of its memberships. That they are the rounds of Rounds.antt, and
 -- `solved_of` what Solve.antt asks for, is proved in proofs/Computed.antt.
 -- Assumes nothing.
-use Rattle.std.specs.Prelude.{ℕ, zero, suc, Bool, true, false, ◌&&◌, List, [], ◌∷◌, ◌++◌, Ok, Err, eqb}
+use Rattle.std.specs.Prelude.{ℕ, zero, suc, Bool, true, false, ◌&&◌, List, [], ◌∷◌, ◌++◌, Option, Some, None, Ok, Err, eqb}
 use Rattle.limits.specs.Limits.{outermost, place_of}
 use Rattle.sets.specs.inner.Compute.{with_member, list_of}
 use Rattle.lines.specs.declared.Head.{Head}
@@ -129,15 +129,14 @@ all_in [] s = true
 all_in (w ∷ ws) s = elim (has_fact w s) [ true ↦ all_in ws s | false ↦ false ]
 
 -- what rounds within an allowance come to: more are needed, or the count and the memberships
-pub data Run : Type 0 where
-  unfinished : Run
-  settled : ℕ → List Fact → Run
+abbrev pub Run : Type 0
+Run = Option (ℕ × List Fact)
 
 -- `left` rounds are allowed still, and n have led to s
 unfoldable pub run : Plan → ℕ → ℕ → List Fact → Run
-run p zero n s = unfinished
+run p zero n s = None
 run p (suc left) n s =
-    let w = round_wanted p s in elim (all_in w s) [ true ↦ settled (suc n) s | false ↦ run p left (suc n) (add_all s w) ]
+    let w = round_wanted p s in elim (all_in w s) [ true ↦ Some (suc n, s) | false ↦ run p left (suc n) (add_all s w) ]
 
 -- ---- the answer
 
@@ -151,8 +150,8 @@ solution_of [] = empty_solution
 solution_of (f ∷ s) = enter f (solution_of s)
 
 abbrev pub solved_by : Head → Run → Solved
-solved_by h unfinished = refused_by over_allowance
-solved_by h (settled n s) = record { refusal = no_refusal; head = h; count = n; solution = solution_of s }
+solved_by h None = refused_by over_allowance
+solved_by h (Some (n, s)) = record { refusal = no_refusal; head = h; count = n; solution = solution_of s }
 
 -- what solving answers, by what the text reads as
 abbrev pub solved_of : Outcome Plan → ℕ → Solved

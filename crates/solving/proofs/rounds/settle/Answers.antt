@@ -1,12 +1,9 @@
 -- After so many rounds the table holds what the definition's rounds give, and none of them was idle.
 -- Assumes nothing.
-use Prim.Native.Nat.{◌-◌, ◌+◌}
-use mathlib.Core.Path.{◌≡◌, refl, subst, subst⁻¹}
+use mathlib.Core.Path.{◌≡◌, subst⁻¹}
 use mathlib.Core.Logic.{◌≢◌}
 use native.Mathlib.Omega.{arith}
 use borrow.Author.Rules.{rules}
-use lib.ListN.{length}
-use Rattle.solving.specs.inner.Table.{table_size}
 use Rattle.solving.proofs.Leastness.{busy_exceeds}
 use Rattle.solving.proofs.Settling.{Reached, reached_none, reached_more, settled_if, answered_by}
 use Rattle.solving.proofs.rounds.settle.Goals as goal
@@ -20,21 +17,17 @@ returns-then-eq c = λ p s.
     let r = at.invariant p s in
     let same : c.round-next.result ≡ at.table = search rules in
     let settled = settled_if p _ at.table _ r (c.round-next.ensures p s) same in
-    answered_by p _ _ at.table _ s.within r settled (omega arith) refl refl (omega arith) c.solution_of.ensures
+    answered_by p _ _ _ at.table _ s.within r settled (omega arith) (omega arith) c.solution_of.ensures
 
 pub loop-count-preserved : goal.loop-count-preserved
 loop-count-preserved c = λ p s.
     let at = c.loop-count in
     let other : c.round-next.result ≢ at.table = search rules in
-    let long : length c.round-next.result ≡ table_size = search rules in
-    subst (λ n. Reached p n c.round-next.result) (let e : at.count - 1 + 1 ≡ at.count + 1 - 1 = omega arith in e)
-    (reached_more p _ at.table _ (at.invariant p s) (c.round-next.ensures p s) long other)
+    reached_more p _ at.table _ (at.invariant p s) (c.round-next.ensures p s) _ (omega arith) (search rules) other
 
 pub returns-else-eq : goal.returns-else-eq
 returns-else-eq c = λ p s.
     let at = c.loop-count in
     let other : c.round-next.result ≢ at.table = search rules in
-    let long : length c.round-next.result ≡ table_size = search rules in
-    let r = reached_more p _ at.table _ (at.invariant p s) (c.round-next.ensures p s) long other in
-    let all : at.count - 1 + 1 ≡ c.args.allowance = omega arith in
-    busy_exceeds p _ (rw all at r.busy)
+    let all = reached_more p _ at.table _ (at.invariant p s) (c.round-next.ensures p s) c.args.allowance (omega arith) (search rules) other in
+    busy_exceeds p _ all.busy
