@@ -2,13 +2,10 @@
 -- part that was put takes it one step on, and where nothing is left the whole was put. Assumes nothing.
 use Prim.Native.Nat.{ℕ, suc, ◌+◌}
 use mathlib.Core.Path.{◌≡◌, refl, sym, ap, subst⁻¹, ◌∙◌}
-use mathlib.Core.List.{List, [], ◌∷◌, ◌++◌, append_assoc}
+use mathlib.Core.List.{List, [], ◌∷◌, ◌++◌}
 use native.Mathlib.Omega.{arith}
-use borrow.Rule.Slice.PartMut.{put_mid}
-use lib.ListN.{length, take, drop, set, length-append, length-set}
-use lib.Seq.{sets, sets-eq, length-sets}
-use Rattle.std.proofs.lemmas.List.Edits.{paste_all}
-use Rattle.std.proofs.lemmas.Slice.{put_mid-paste}
+use lib.ListN.{length, set, length-append, length-set}
+use lib.Seq.{sets}
 use Rattle.text.proofs.Lists.{sets_append}
 use Rattle.putting.specs.Put.{Room, Put}
 
@@ -62,17 +59,6 @@ put_then {before} {at} {xs} {ys} p q = record {
 
 -- what the search lacks where two parts are to be put, one behind the other
 pub ruleset rooms = (room_first, room_then)
-
--- a part of the buffer that was written over
-pub put_part : {before part : List ℕ} {at : ℕ} {xs : List ℕ} (k : ℕ) → Room before at xs → part ≡ xs → k ≡ length xs
-    → Put before at xs (put_mid at k before part) (at + length xs)
-put_part {before} {part} {at} {xs} k r same long = record { stands = stands; behind = refl; size = ap length stands ∙ length-sets before at xs }
-  where
-    stands : put_mid at k before part ≡ sets before at xs
-    stands =
-        put_mid-paste at k before part xs k same refl long ∙ (paste_all before at xs k long
-        ∙ (ap (λ n. take at before ++ (xs ++ drop (at + n) before)) long
-        ∙ (sym (append_assoc (take at before) xs (drop (at + length xs) before)) ∙ sym (sets-eq xs before at r.fits))))
 
 -- nothing was put
 pub put_none : (buffer : List ℕ) (at : ℕ) → Put buffer at [] buffer at

@@ -35,14 +35,17 @@ pub fn put_line(buffer: &mut [u8], at: usize, bytes: &[u8]) -> usize
     next + 1
 }
 
-// Puts characters as they are.
+// Puts characters as they are. One by one: the library's copying calls memmove, and gateways are promised that nothing but memcpy and memset is called.
 pub fn put_text(buffer: &mut [u8], at: usize, characters: &[u8]) -> usize
     requires { Room buffer.old at characters.now }
     ensures { Put buffer.old at characters.now buffer.new result }
 {
-    let end = at + characters.len();
-    buffer[at..end].copy_from_slice(characters);
-    end
+    let mut next = at;
+    for character in characters {
+        buffer[next] = *character;
+        next += 1;
+    }
+    next
 }
 
 // Puts the last two lines of a sheet: bytes, and a phrase that ends in a line feed.
