@@ -72,13 +72,8 @@ fn after_head(text: &[u8], head: Head, cursor: Cursor) -> Result<Reading, Refusa
     let named = read_names(text, head, head.names as usize, 0, fresh_names(cursor))?;
     let offered = read_offers(text, head, 0, fresh_offers(named.cursor))?;
     let labelled = read_labels(text, head, fresh_labels(offered.cursor))?;
-    let tree = read_node(
-        text,
-        head,
-        named.scope,
-        MOST_DEPTH,
-        fresh_state(labelled.cursor),
-    )?;
+    let mut tree = fresh_state(labelled.cursor);
+    read_node(text, head, named.scope, MOST_DEPTH, &mut tree)?;
     if tree.cursor.at < text.len() {
         return Err(refuse(tree.cursor, Reason::TextGoesOn));
     }

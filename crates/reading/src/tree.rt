@@ -3,7 +3,7 @@ ghost use Rattle.std.specs.Prelude.{◌≡◌};
 ghost use Rattle.lines.specs.Values.{meaning_in};
 ghost use Rattle.reading.specs.Tree.{branch_count};
 ghost use Rattle.reading.specs.Plan.{read_tree};
-ghost use Rattle.reading.specs.inner.Working.{StandsIn, place_at, FreshState, Grows, Branches};
+ghost use Rattle.reading.specs.inner.Working.{StandsIn, place_at, FreshState, beside, Grows, Branches};
 
 use crate::Refusal;
 use crate::cursor::{Cursor, past, refuse};
@@ -41,34 +41,33 @@ pub fn branches_of(node: Node) -> u8
     }
 }
 
-// What was read before, with a tree more, of which `depth` may be used.
+// A tree more is read behind what was read before, of which `depth` may be used. The state is lent, since a copy for each depth would take much stack.
 #[cycle(tree)]
 pub(crate) fn read_node(
     text: &[u8],
     head: Head,
     scope: Scope,
     depth: usize,
-    state: State,
-) -> Result<State, Refusal>
-    requires { StandsIn text.now state.cursor }
-    ensures { Grows text.now state.nodes state.count (read_tree depth head (meaning_in scope) state.count (place_at text.now state.cursor)) result }
+    state: &mut State,
+) -> Result<(), Refusal>
+    requires { StandsIn text.now state.old.cursor }
+    ensures { Grows text.now state.old.nodes state.old.count (read_tree depth head (meaning_in scope) state.old.count (place_at text.now state.old.cursor)) (beside result state.new) }
 {
     let cursor = state.cursor;
     match next_node(text, cursor.at, depth, head, scope, state.count) {
         Err(reason) => Err(refuse(cursor, reason)),
         Ok(node) => {
-            let mut more = state;
-            more.nodes[state.count] = node;
-            more.count += 1;
-            more.cursor = past(text, cursor);
+            state.nodes[state.count] = node;
+            state.count += 1;
+            state.cursor = past(text, cursor);
             let inner = enter(scope, node);
-            read_branches(text, head, inner, depth - 1, branches_of(node), more)
+            read_branches(text, head, inner, depth - 1, branches_of(node), state)
         }
     }
 }
 
-// What was read before, with so many branches more: none, one, or two, the second where the first ended. A number and no closure: document 01 has a
-// node reader and a branch reader call each other.
+// So many branches more are read: none, one, or two, the second where the first ended. A number and no closure: document 01 has a node reader and a
+// branch reader call each other.
 #[cycle(tree)]
 fn read_branches(
     text: &[u8],
@@ -76,17 +75,17 @@ fn read_branches(
     scope: Scope,
     depth: usize,
     many: u8,
-    state: State,
-) -> Result<State, Refusal>
-    requires { StandsIn text.now state.cursor }
-    ensures { Branches many text.now state (read_tree depth head (meaning_in scope)) result }
+    state: &mut State,
+) -> Result<(), Refusal>
+    requires { StandsIn text.now state.old.cursor }
+    ensures { Branches many text.now state.old (read_tree depth head (meaning_in scope)) (beside result state.new) }
 {
     if many == 0 {
-        return Ok(state);
+        return Ok(());
     }
-    let first = read_node(text, head, scope, depth, state)?;
+    read_node(text, head, scope, depth, state)?;
     if many == 1 {
-        return Ok(first);
+        return Ok(());
     }
-    read_node(text, head, scope, depth, first)
+    read_node(text, head, scope, depth, state)
 }

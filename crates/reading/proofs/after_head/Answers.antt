@@ -24,21 +24,21 @@ returns-in_err-labelled c =
     (after_labels c.args.text.now c.args.head c.args.cursor c.requires.0 _ c.fresh_names.ensures _ c.in_ok-named.ensures _ c.fresh_offers.ensures
     _ c.in_ok-offered.ensures _ c.fresh_labels.ensures _ c.in_err-labelled.ensures)
 
-pub returns-in_err-tree : goal.returns-in_err-tree
-returns-in_err-tree c =
-    let p = err_from_is_err_and c.from_residual-in_err-tree.result c.from_residual-in_err-tree.ensures.1 in
+pub returns-in_err-read_node : goal.returns-in_err-read_node
+returns-in_err-read_node c =
+    let p = err_from_is_err_and c.from_residual-in_err-read_node.result c.from_residual-in_err-read_node.ensures.1 in
     rw (p.1, p.2)
     (after_tree c.args.text.now c.args.head c.args.cursor c.requires.0 _ c.fresh_names.ensures _ c.in_ok-named.ensures _ c.fresh_offers.ensures
-    _ c.in_ok-offered.ensures _ c.fresh_labels.ensures _ c.in_ok-labelled.ensures _ c.fresh_state.ensures _ c.in_err-tree.ensures)
+    _ c.in_ok-offered.ensures _ c.fresh_labels.ensures _ c.in_ok-labelled.ensures _ c.fresh_state-tree.ensures _ c.in_err-read_node.ensures)
 
 pub returns-then-tree-text : goal.returns-then-tree-text
 returns-then-tree-text c =
     after_more c.args.text.now c.args.head c.args.cursor c.requires.0 _ c.fresh_names.ensures _ c.in_ok-named.ensures _ c.fresh_offers.ensures
-    _ c.in_ok-offered.ensures _ c.fresh_labels.ensures _ c.in_ok-labelled.ensures _ c.fresh_state.ensures _ c.in_ok-tree.ensures
+    _ c.in_ok-offered.ensures _ c.fresh_labels.ensures _ c.in_ok-labelled.ensures _ c.fresh_state-tree.ensures _ c.in_ok-read_node.ensures
     _ c.if-tree-text.true c.refuse.ensures
 
 pub returns : goal.returns
 returns c =
     after_all c.args.text.now c.args.head c.args.cursor c.requires.0 _ c.fresh_names.ensures _ c.in_ok-named.ensures _ c.fresh_offers.ensures
-    _ c.in_ok-offered.ensures _ c.fresh_labels.ensures _ c.in_ok-labelled.ensures _ c.fresh_state.ensures _ c.in_ok-tree.ensures
+    _ c.in_ok-offered.ensures _ c.fresh_labels.ensures _ c.in_ok-labelled.ensures _ c.fresh_state-tree.ensures _ c.in_ok-read_node.ensures
     _ c.if-tree-text.false refl

@@ -44,6 +44,11 @@ abbrev pub Holds : {A R : Type 0} → (A → R → Type 0) → Outcome A → Res
 Holds P (Err f) r = r ≡ Err f
 Holds P (Ok a) r = IsOkAnd r (P a)
 
+-- the state that was lent, beside what is returned
+abbrev pub beside : {U R : Type 0} → Result U Refusal → R → Result R Refusal
+beside (Ok done) state = Ok state
+beside (Err f) state = Err f
+
 -- ---- the free names read so far
 
 -- no free name yet
