@@ -69,7 +69,8 @@ fn after_head(text: &[u8], head: Head, cursor: Cursor) -> Result<Reading, Refusa
     requires { HeadWithin head × StandsIn text.now cursor }
     ensures { result ≡ reads (after_head head (place_at text.now cursor)) }
 {
-    let named = read_names(text, head, head.names as usize, 0, fresh_names(cursor))?;
+    let mut named = fresh_names(cursor);
+    read_names(text, head, head.names as usize, 0, &mut named)?;
     let offered = read_offers(text, head, 0, fresh_offers(named.cursor))?;
     let labelled = read_labels(text, head, fresh_labels(offered.cursor))?;
     let mut tree = fresh_state(labelled.cursor);

@@ -2,7 +2,7 @@
 ghost use Rattle.std.specs.Prelude.{◌≡◌, ◌+◌, ◌≤◌};
 ghost use Rattle.limits.specs.Limits.{most_names};
 ghost use Rattle.reading.specs.Plan.{read_names};
-ghost use Rattle.reading.specs.inner.Working.{StandsIn, place_at, FreshNames, Gathers};
+ghost use Rattle.reading.specs.inner.Working.{StandsIn, place_at, FreshNames, beside, Gathers};
 
 use crate::Refusal;
 use crate::cursor::{Cursor, past, refuse};
@@ -31,31 +31,30 @@ pub(crate) fn fresh_names(cursor: Cursor) -> Names
     }
 }
 
-// What was read before, with `many` free names more, each `least` or more. It calls itself as the definition does: a loop would need an invariant that
-// says the same.
+// As many free names more are read behind what was read before, each `least` or more. The state is lent, since a copy for each name would take much stack.
+// It calls itself as the definition does: a loop would need an invariant that says the same.
 pub(crate) fn read_names(
     text: &[u8],
     head: Head,
     many: usize,
     least: usize,
-    state: Names,
-) -> Result<Names, Refusal>
-    requires { StandsIn text.now state.cursor × (state.count + many ≤ most_names) }
-    ensures { Gathers text.now state (read_names many head least (place_at text.now state.cursor)) result }
+    state: &mut Names,
+) -> Result<(), Refusal>
+    requires { StandsIn text.now state.old.cursor × (state.old.count + many ≤ most_names) }
+    ensures { Gathers text.now state.old (read_names many head least (place_at text.now state.old.cursor)) (beside result state.new) }
 {
     if many == 0 {
-        return Ok(state);
+        return Ok(());
     }
     let cursor = state.cursor;
     match next_name(text, cursor.at, head, least) {
         Err(reason) => Err(refuse(cursor, reason)),
         Ok(free) => {
-            let mut more = state;
-            more.names[state.count] = free;
-            more.scope = give(state.scope, free.name, Marker::Channel(free.channel));
-            more.count += 1;
-            more.cursor = past(text, cursor);
-            read_names(text, head, many - 1, free.name as usize + 1, more)
+            state.names[state.count] = free;
+            state.scope = give(state.scope, free.name, Marker::Channel(free.channel));
+            state.count += 1;
+            state.cursor = past(text, cursor);
+            read_names(text, head, many - 1, free.name as usize + 1, state)
         }
     }
 }

@@ -5,18 +5,18 @@ use Rattle.reading.proofs.names.+read_names.Goals as goal
 
 pub returns-then-many-eq0 : goal.returns-then-many-eq0
 returns-then-many-eq0 t c =
-    names_none c.args.text.now c.args.head _ _ c.args.state c.if-many-eq0.true c.requires.0
+    names_none c.args.text.now c.args.head _ _ c.args.state.now c.if-many-eq0.true c.requires.0
 
-pub past-more-requires : goal.past-more-requires
-past-more-requires t c =
-    let whole = name_there c.args.text.now c.args.head _ _ c.args.state c.if-many-eq0.false _ c.in-Ok.ensures in
+pub past-state-requires : goal.past-state-requires
+past-state-requires t c =
+    let whole = name_there c.args.text.now c.args.head _ _ c.args.state.now c.if-many-eq0.false _ c.in-Ok.ensures in
     (c.requires.0, whole.ended)
 
 pub returns-in-Err : goal.returns-in-Err
 returns-in-Err t c =
-    names_refused c.args.text.now c.args.head _ _ c.args.state c.if-many-eq0.false _ _ c.in-Err.ensures c.refuse.ensures
+    names_refused c.args.text.now c.args.head _ _ c.args.state.now c.if-many-eq0.false _ _ c.in-Err.ensures c.refuse.ensures
 
 pub returns-in-Ok : goal.returns-in-Ok
 returns-in-Ok t c =
-    names_on c.args.text.now c.args.head _ _ c.args.state c.if-many-eq0.false _ c.in-Ok.ensures _ _ c.past-more.ensures.0 refl refl
-    c.give-more.ensures c.read_names.ensures
+    names_on c.args.text.now c.args.head _ _ c.args.state.now c.if-many-eq0.false _ c.in-Ok.ensures _ _ c.past-state.ensures.0 refl refl
+    c.give-state.ensures c.read_names.ensures
