@@ -142,11 +142,11 @@ number 8,128 '8,1[0-9]{2}'
 number 2,319 '2,3[0-9]{2}'
 hold 'the longest word sheet has another length on some page' \
     [ -z "$(grep -ohE '(^|[^0-9,])11[0-9] bytes' $pages docs/PLAN.md docs/ANALYSIS.md | grep -v '114 bytes')" ]
-# The stack of the deepest call is the header's, in decision 37 and on the newest page of a landing, or of the port behind them, that gives it.
+# The stack of the deepest call is the header's, in decision 37 and on the newest page that gives it: of a landing, or of the port and the design pass behind.
 deepest=$(tr '\n' ' ' <examples/gateway.h | sed 's/.* took //; s/ with the library .*//' | tr -c '0-9,' '\n' | grep '^[0-9]*,[0-9]*$' | sort -t , -n -k 1,1 -k 2,2 | tail -n 1)
 awk '/^\*\*/ { on = /^\*\*37\. / } on' docs/DECISIONS.md >"$work/out"
 hold "docs/DECISIONS.md: decision 37 does not say that the deepest call took ${deepest:-none}" grep -qwF "${deepest:-none}" "$work/out"
-newest=$(grep -l 'deepest call takes' docs/landings/*.md docs/PORT.md | tail -n 1)
+newest=$(grep -l 'deepest call takes' docs/landings/*.md docs/PORT.md docs/DESIGN-PASS.md | tail -n 1)
 hold "${newest:-docs/landings}: the deepest call's stack is not ${deepest:-none}" grep -qwF "${deepest:-none}" "${newest:-/dev/null}"
 rounds=$(sed -n 's/^pub const CEILING: u16 = \([0-9]*\);$/\1/p' crates/solving/src/lib.rt)
 hold 'the most rounds are another number than the pages say' [ "$rounds" = 17409 ]
