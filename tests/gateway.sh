@@ -863,7 +863,7 @@ for function in sheet reach words; do
     done
     threads_find crowd '' P2
     threads_find crowd 'a plan had another sheet while others were asked' "$some"
-    for fault in stack50000 stack100000; do
+    for fault in stack60000 stack64000; do
         threads_find $fault 'HJALTROPA_STACK leaves no margin over that' "$some"
     done
     threads_find byte '' P2
