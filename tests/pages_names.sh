@@ -148,6 +148,12 @@ awk '/^\*\*/ { on = /^\*\*37\. / } on' docs/DECISIONS.md >"$work/out"
 hold "docs/DECISIONS.md: decision 37 does not say that the deepest call took ${deepest:-none}" grep -qwF "${deepest:-none}" "$work/out"
 newest=$(grep -l 'deepest call takes' docs/landings/*.md docs/PORT.md docs/DESIGN-PASS.md | tail -n 1)
 hold "${newest:-docs/landings}: the deepest call's stack is not ${deepest:-none}" grep -qwF "${deepest:-none}" "${newest:-/dev/null}"
+# So is the stack that suffices, in decision 37 and, in KiB, in the README.
+stack=$(sed -n 's/^#define HJALTROPA_STACK \([0-9]*\)$/\1/p' examples/gateway.h)
+hold "docs/DECISIONS.md: decision 37 does not say that the header names ${stack:-none} bytes" \
+    [ "$(sed -n 's/.*the header names \([0-9,]*\) bytes.*/\1/p' "$work/out" | tr -d ,)" = "${stack:-none}" ]
+hold "README.md: the stack that suffices is not the header's, ${stack:-none} bytes" \
+    [ "$(sed -n 's/.*(\([0-9]*\) KiB suffice: measured.*/\1/p' README.md)" = "$((${stack:-0} / 1024))" ]
 rounds=$(sed -n 's/^pub const CEILING: u16 = \([0-9]*\);$/\1/p' crates/solving/src/lib.rt)
 hold 'the most rounds are another number than the pages say' [ "$rounds" = 17409 ]
 hold 'README: the exit statuses are not those of ./sheet' grep -qF 'exits with 0 for clear, 1 for a breach, 2 for refused and 3 for trouble of its own' README.md
