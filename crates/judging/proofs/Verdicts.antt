@@ -7,8 +7,11 @@ use Rattle.judging.specs.declared.Breach.{Breach}
 use Rattle.judging.specs.declared.Verdict.{Verdict}
 use Rattle.judging.specs.declared.Verdict.TheVariants.{Unjudged, Yes, No}
 use Rattle.judging.specs.Verdict.{Discreet, IsBreach, FirstBreach}
-use Rattle.judging.specs.Judge.{no_bytes, verdict_bytes, VerdictOn}
+use Rattle.judging.specs.Judge.{yes_bytes, no_bytes, verdict_bytes, VerdictOn}
 use Rattle.judging.proofs.Order.{same_breach, first_once}
+
+pub yes_not_no : (b : Breach) → yes_bytes ≡ no_bytes b → ⊥
+yes_not_no b e = cc
 
 no_bytes_once : (b d : Breach) → no_bytes b ≡ no_bytes d → b ≡ d
 no_bytes_once b d e = same_breach (cc) (cc) (cc) (cc)

@@ -55,3 +55,16 @@ module _ (w : ℕ) where
 
     pub place_back : i / w * w + i % w ≡ i
     place_back = div-add-mod' i w
+
+  -- places go by their levels first, and then by their channels
+  module _ (i j : ℕ) where
+    pub levels_in_turn : 0 < w → i ≤ j → i / w ≤ j / w
+    levels_in_turn wide h =
+        let before : j / w < i / w → ⊥ = λ l. let less = (div-lt_iff_lt-mul wide).0 l in omega (arith, div-add-mod' i w) in
+        omega arith
+
+    pub channels_in_turn : i ≤ j → i / w ≡ j / w → i % w ≤ j % w
+    channels_in_turn h e = omega (arith, div-add-mod' i w, div-add-mod' j w, ap (λ k. k * w) e)
+
+    pub same_place : i / w ≡ j / w → i % w ≡ j % w → i ≡ j
+    same_place e f = omega (arith, div-add-mod' i w, div-add-mod' j w, ap (λ k. k * w) e)

@@ -14,6 +14,9 @@ pub record Left (before : List ℕ) (at : ℕ) (xs : List ℕ) (buffer : List �
   pub reach : next + length rest ≡ at + length xs
   pub size : length buffer ≡ length before
 
+pub left_all : (before : List ℕ) (at : ℕ) (xs : List ℕ) → Left before at xs before at xs
+left_all before at xs = record { same = refl; reach = refl; size = refl }
+
 module _ {before : List ℕ} {at : ℕ} {xs buffer : List ℕ} {next : ℕ} where
   pub left_none : Left before at xs buffer next [] → Put before at xs buffer next
   left_none l = record { stands = l.same; behind = omega arith; size = l.size }

@@ -6,7 +6,7 @@ use Prim.Native.Nat.{ℕ, ◌^◌}
 use native.Mathlib.Omega.{arith}
 use lib.Bits.{bit_and, bit_or}
 use Rattle.std.proofs.lemmas.Nat.Bits.{bit_at-lt, bit_at-zero, bit_at_or, bit_at_and, bit_at-pow_same, bit_at-pow_other, same_from_bits}
-use Rattle.sets.specs.Set.{none, Has}
+use Rattle.sets.specs.Set.{none, Has, Subset}
 
 -- ---- the empty set, union, intersection, singleton
 
@@ -29,3 +29,6 @@ has_single d c = grind (arith, bit_at-pow_same d, bit_at-pow_other d c)
 
 pub same_members : (a b : ℕ) → ((c : ℕ) → Has a c ↔ Has b c) → a ≡ b
 same_members a b h = same_from_bits a b (λ c. grind (arith, h c, bit_at-lt a c, bit_at-lt b c))
+
+pub subset_antisymm : (a b : ℕ) → Subset a b → Subset b a → a ≡ b
+subset_antisymm a b p q = same_members a b (λ c. (p c, q c))

@@ -26,6 +26,10 @@ is_member s c = eqb (bit s c) 1
 pub record Members (s : Set) (P : ℕ → Type 0) : Type 0 where
   pub has : (c : ℕ) → Has s c ↔ P c
 
+-- each member of a is a member of b
+abbrev pub Subset : Set → Set → Type 0
+Subset a b = (c : ℕ) → Has a c → Has b c
+
 -- every member of s is below the width w
 abbrev pub Narrow : ℕ → Set → Type 0
 Narrow w s = (c : ℕ) → Has s c → c < w

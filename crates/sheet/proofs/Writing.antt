@@ -8,13 +8,13 @@ use native.Mathlib.Bridge.{le_prop}
 use native.Mathlib.Decide.{dec_le}
 use native.Mathlib.Omega.{arith}
 use lib.ListN.{length, drop, take, get_or, replicate, length-replicate, drop_of_length-le}
-use lib.Seq.{sets-eq, take-append_seam}
+use lib.Seq.{sets-eq, take-append_seam, length-take-le}
 use Rattle.std.specs.Prelude.{Ok, Err}
 use Rattle.lines.specs.Values.{padded}
 use Rattle.text.proofs.Lists.{drop_replicate}
 use Rattle.putting.specs.Put.{Put}
 use Rattle.sheet.specs.declared.made.Sheet.{Sheet}
-use Rattle.sheet.specs.Write.{Written, values_of, length_in, Wrote, Writes, longest_sheet, Fills, IsWhole}
+use Rattle.sheet.specs.Write.{Written, values_of, length_in, Wrote, Writes, longest_sheet, Fills, IsWhole, Counted}
 
 -- ---- the two ways of writing
 
@@ -91,6 +91,10 @@ same_sheet r q bytes size = λ i. record {
 fills_once : (s t : List ℕ) (r q : Sheet) → s ≡ t → Fills s r → Fills t q → r ≡ q
 fills_once s t r q same a b =
     same_sheet r q (a.bytes ∙ (ap (padded longest_sheet 0) same ∙ sym b.bytes)) (a.size ∙ (ap length same ∙ sym b.size))
+
+-- a sheet's size counts bytes of its array, and the front part that it counts has as many
+pub counted : {sheet : List ℕ} {r : Sheet} → Fills sheet r → Counted r
+counted {sheet} {r} w = (r.counted, sym (length-take-le r.size r.bytes r.counted))
 
 -- the front of the array is the sheet
 pub front_is : {sheet : List ℕ} {r : Sheet} → Fills sheet r → take r.size r.bytes ≡ sheet

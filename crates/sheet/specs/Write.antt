@@ -1,7 +1,7 @@
 -- Document 01, refusal 15 and what the sheet operation returns and leaves in the buffer; and a whole sheet, in an array of its own. Which sheet is
 -- meant is a parameter: `IsSheet text allowance sheet` says that a sheet is that of a text within an allowance of rounds.
 -- Assumes nothing.
-use Rattle.std.specs.Prelude.{ℕ, ◌<◌, ◌≤◌, ◌≡◌, List, [], ◌∷◌, ◌++◌, length, drop, get_or, Result, Ok, Err}
+use Rattle.std.specs.Prelude.{ℕ, ◌<◌, ◌≤◌, ◌≡◌, List, [], ◌∷◌, ◌++◌, length, drop, take, get_or, Result, Ok, Err}
 use Rattle.lines.specs.Values.{padded}
 use Rattle.sheet.specs.declared.made.Sheet.{Sheet}
 use Rattle.sheet.specs.declared.TooShort.{TooShort}
@@ -46,3 +46,7 @@ pub record IsWhole (IsSheet : List ℕ → ℕ → List ℕ → Type 0) (text : 
   pub sheet : List ℕ
   pub of_text : IsSheet text allowance sheet
   pub fills : Fills sheet r
+
+-- its size counts bytes of its array. That follows, and is said for those who take the front part of the array
+abbrev pub Counted : Sheet → Type 0
+Counted r = (r.size ≤ length r.bytes) × (r.size ≡ length (take r.size r.bytes))

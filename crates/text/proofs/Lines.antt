@@ -80,6 +80,10 @@ module _ (s : List ℕ) (at : ℕ) where
       let size : end_at s at - at ≡ first_length (drop at s) = omega arith in
       first_line (drop at s) ∙ rw (← first_end (drop at s), size)
 
+  pub character_at_lem : (j : ℕ) → j < length (line_at s at).characters → get_or (line_at s at).characters j 0 ≡ get_or s (at + j) 0
+  character_at_lem j h =
+      ap (λ (cs : List ℕ). get_or cs j 0) line_is ∙ get_or-take (end_at s at - at) (drop at s) j 0 (omega arith) ∙ get_or-drop at s j 0
+
   -- it ends at the first line feed in what stands from there on, and otherwise at the text's end
   pub end_found : (behind : List ℕ) → behind ≡ between at (length s) s → at + unwrap_or (position is_feed behind) (length behind) ≡ end_at s at
   end_found behind e = rw (first_end, e, take_rest) (grind (arith, nat_tests, prefix_len-le-length (λ c. not (is_feed c)) (drop at s)))
@@ -138,7 +142,7 @@ bytes_length [] = refl
 bytes_length (high ∷ []) = refl
 bytes_length (high ∷ low ∷ cs) = omega (arith, bytes_length cs)
 
-bytes_at_lem : (cs : List ℕ) (i : ℕ) → i < length (bytes_of cs) → get_or (bytes_of cs) i 0 ≡ value_of (get_or cs (i * 2) 0) * 16 + value_of (get_or cs (i * 2 + 1) 0)
+pub bytes_at_lem : (cs : List ℕ) (i : ℕ) → i < length (bytes_of cs) → get_or (bytes_of cs) i 0 ≡ value_of (get_or cs (i * 2) 0) * 16 + value_of (get_or cs (i * 2 + 1) 0)
 unfolding bytes_of
 bytes_at_lem [] i h = absurd (omega arith)
 bytes_at_lem (high ∷ []) i h = absurd (omega arith)
@@ -178,8 +182,5 @@ module _ (s : List ℕ) (at : ℕ) where
     pub byte_at : get_or (bytes_at s at) i 0 ≡ value_of (get_or s (at + i * 2) 0) * 16 + value_of (get_or s (at + i * 2 + 1) 0)
     byte_at =
         let low : at + (i * 2 + 1) ≡ at + i * 2 + 1 = omega arith in
+        let there = character_at_lem s at in
         bytes_at_lem (line_at s at).characters i h ∙ rw (there (i * 2) (omega (arith, in_line)), there (i * 2 + 1) in_line, low)
-      where
-        there : (j : ℕ) → j < first_length (drop at s) → get_or (line_at s at).characters j 0 ≡ get_or s (at + j) 0
-        there j h =
-            ap (λ (cs : List ℕ). get_or cs j 0) (line_is s at) ∙ get_or-take (end_at s at - at) (drop at s) j 0 (omega arith) ∙ get_or-drop at s j 0
