@@ -38,7 +38,7 @@ use Rattle.lines.specs.Labels.{level_kind, is_thing, place_among, bytes_of_label
 use Rattle.lines.specs.Line.{first_head, next_name, next_offer, next_label, next_node}
 use Rattle.lines.specs.Rules.{edition, outside_limits, head_of, head_in, name_in, offer_by, meant, pair_rule, node_by}
 use Rattle.lines.specs.Scope.{Scope}
-use Rattle.lines.proofs.Promise.{no_node, in_only}
+use Rattle.lines.proofs.Promise.{no_node, one_section, in_only}
 use Rattle.byte_places.specs.BytePlaces.{first_fault, limit_faults, is_wide, pair_faults, section_faults, frame_faults, pair_unmeant, frame_unmeant, byte_place}
 use Rattle.byte_places.specs.Promise.{speaks, Placed}
 
@@ -58,15 +58,6 @@ met_from i (false ∷ t ∷ ts) e = met_from (i + 1) (t ∷ ts) e
 
 fault_some : (tests : List Bool) → any tests ≡ true → 1 ≤ first_fault tests
 fault_some tests e = rw position_from-zero (met_from 0 tests e)
-
--- two sections with one place among all are one
-one_section : (a b : Section) → rank a ≡ rank b → a ≡ b
-one_section FirstLine FirstLine e = refl
-one_section FreeNames FreeNames e = refl
-one_section OfferLines OfferLines e = refl
-one_section LabelLines LabelLines e = refl
-one_section TreeLines TreeLines e = refl
-one_section a b e = absurd (omega arith)
 
 -- a refusal that speaks of no byte has no place
 pub no_byte : (number : ℕ) → speaks number ≡ false → Placed number 0
@@ -261,7 +252,7 @@ module _ (h : Head) (scope : Scope) (left : List Line) where
   head_says = on_line (only FirstLine) _ (λ row found allowed. head_met)
 
   pub name_says : (least : ℕ) → Says (next_name h least left)
-  name_says least = on_line (only FreeNames) _ (λ row found allowed. name_met row found least (in_only FreeNames row.section allowed))
+  name_says least = on_line (only FreeNames) _ (λ row found allowed. name_met row found least (ap rank (in_only FreeNames row.section allowed)))
 
   pub offer_says : (least : ℕ) → Says (next_offer h least left)
   offer_says least = on_line (to_tree OfferLines) _ (λ row found allowed. offer_met row found least _ refl)

@@ -33,7 +33,7 @@ use Rattle.lines.specs.Promise.{Gives, OnLine, LineWhole, NodeFits, HeadWithin, 
 use Rattle.lines.proofs.Table.{framing}
 use Rattle.lines.proofs.RulesWithin.{gives_cond, gives_more, on_line, head_within, name_within, next_offer_within, next_label_within, node_within}
 pub use Rattle.text.proofs.Lines.{rest_split, rest_none}
-pub use Rattle.lines.proofs.Table.{no_node, in_only}
+pub use Rattle.lines.proofs.Table.{no_node, one_section, in_only}
 
 -- ---- the next line, where some are left
 

@@ -21,7 +21,7 @@ use Rattle.lines.specs.declared.reasons.Reason.TheVariants.{FaultyLine, NotAllow
 use Rattle.limits.specs.Limits.{longest_label}
 use Rattle.text.specs.Text.{Line, all_digits, odd_or_none, is_faulty, bytes_of, byte}
 use Rattle.text.specs.Positions.{bytes_at, end_at, line_at, rest_at}
-use Rattle.lines.specs.Frames.{rank, only, outside, Row, table, frame_from, frame_of, Judged, row_in, frame_for, frame_in}
+use Rattle.lines.specs.Frames.{rank, only, outside, Row, table, frame_from, frame_of, Judged, row_in, frame_for, frame_in, next_bytes}
 use Rattle.lines.specs.Scope.{Scope}
 use Rattle.lines.specs.Rules.{node_by, node_in}
 use Rattle.lines.specs.inner.Working.{IsRow, Framing}
@@ -90,9 +90,13 @@ module _ (bytes : List ℕ) (row : Frame) (r : IsRow bytes row) where
       let asked : least_of (Some kind) ≤ row.least = rw (e, same) at (row_has (λ f. least_of f.kind ≤ f.least) (omega arith)) in
       omega arith
 
-  -- and its rule is that of the kind
-  pub rule_by_kind : (kind : Option Kind) → row.kind ≡ kind → (h : Head) (scope : Scope) → node_by kind h scope bytes ≡ node_in h scope row bytes
-  rule_by_kind kind e h scope = ap (λ k. node_by k h scope bytes) (sym e)
+  -- and its rule is that of the kind, by whichever row the table has for its first byte
+  pub rule_by_kind : (kind : Option Kind) → row.kind ≡ kind → (h : Head) (scope : Scope) (own : Frame) → frame_of (byte 0 bytes) ≡ Some own
+      → node_by kind h scope bytes ≡ node_in h scope own bytes
+  rule_by_kind kind e h scope own told =
+      let found = r.found in
+      let same : row ≡ own = cc in
+      ap (λ (k : Option Kind). node_by k h scope bytes) (sym e ∙ ap (λ (f : Frame). f.kind) same)
 
   -- a frame of a section has as many bytes
   by_section : (section : Section) (least most : ℕ) → Each (λ f. rank f.section ≡ rank section → (least ≤ f.least) × (f.most ≤ most)) table
@@ -117,13 +121,22 @@ module _ (bytes : List ℕ) (row : Frame) (r : IsRow bytes row) where
   unfolding table
   label_long e = by_section LabelLines 4 (3 + longest_label) (omega arith) e
 
+-- two sections with one place among all are one
+pub one_section : (a b : Section) → rank a ≡ rank b → a ≡ b
+one_section FirstLine FirstLine e = refl
+one_section FreeNames FreeNames e = refl
+one_section OfferLines OfferLines e = refl
+one_section LabelLines LabelLines e = refl
+one_section TreeLines TreeLines e = refl
+one_section a b e = absurd (omega arith)
+
 -- where one section alone is allowed, it is that
-pub in_only : (section other : Section) → outside (only section) other ≡ false → rank other ≡ rank section
+pub in_only : (section other : Section) → outside (only section) other ≡ false → other ≡ section
 in_only section other e =
     let a = or-false (ltb (rank other) (rank section)) (ltb (rank section) (rank other)) e in
     let least = ltb-false (rank other) (rank section) a.0 in
     let most = ltb-false (rank section) (rank other) a.1 in
-    omega arith
+    one_section other section (omega arith)
 
 -- ---- a line with no fault
 
@@ -207,3 +220,15 @@ module _ (s : List ℕ) (span : Span) (at : ℕ) where
 pub framed : (s : List ℕ) (span : Span) (at : ℕ) (said : Judged Frame) → said ≡ frame_in span (rest_at s at) → IfOk said (Framing s span at)
 framed s span at (Ok row) e = framing s span at row (sym e)
 framed s span at (Err reason) e = tt
+
+-- a frame: it is that of the line, whose bytes are read, with its row of the table
+pub record Framed-fine (s : List ℕ) (span : Span) (at : ℕ) (row : Frame) : Type 0 where
+  pub judged : frame_in span (rest_at s at) ≡ Ok row
+  pub bytes_there : next_bytes (rest_at s at) ≡ bytes_at s at
+  pub framing : Framing s span at row
+
+pub framed_fine : (s : List ℕ) (span : Span) (at : ℕ) (there : Span) → there ≡ span → (said : Judged Frame) → said ≡ frame_in there (rest_at s at)
+    → (row : Frame) → said ≡ Ok row → Framed-fine s span at row
+framed_fine s span at there spanned said answered row good =
+    let judged : frame_in span (rest_at s at) ≡ Ok row = ap (λ (p : Span). frame_in p (rest_at s at)) (sym spanned) ∙ sym answered ∙ good in
+    record { judged = judged; bytes_there = refl; framing = framing s span at row judged }
