@@ -1,8 +1,8 @@
 -- What is read off a row of in sets: the handles of a level are those at one of its channels, and the first channel is the smallest that has the handle. So the
 -- whole is what the solution says is received. Assumes nothing.
-use Prim.Native.Nat.{ℕ, ◌+◌, ◌*◌, ◌<◌, ◌≤◌}
+use Prim.Native.Nat.{ℕ, ◌+◌, ◌-◌, ◌*◌, ◌<◌, ◌≤◌}
 use mathlib.Core.Bool.{Bool, true, false, not, cond}
-use mathlib.Core.Path.{◌≡◌, refl, subst, subst⁻¹, ◌∙◌}
+use mathlib.Core.Path.{◌≡◌, refl, ap, subst, subst⁻¹, ◌∙◌}
 use mathlib.Core.List.{List}
 use native.Mathlib.Omega.{arith}
 use native.Mathlib.Decide.{dec_lt}
@@ -10,12 +10,12 @@ use borrow.Author.Tests.{eqb-true, eqb-false, ltb-true, ltb-false, not-true, not
 use lib.Arith.{digits_div, digits_mod}
 use lib.Dec.{ltb}
 use lib.ListN.{length, get_or, drop}
-use Rattle.std.specs.Prelude.{Option, Some, None, MatchOption, slice_range}
+use Rattle.std.specs.Prelude.{Option, Some, None, MatchOption, position, slice_range}
 use Rattle.std.specs.List.{prefix_len}
 use Rattle.std.proofs.lemmas.List.{get_or-take, get_or-drop, get_or_past, length-take}
 use Rattle.std.proofs.lemmas.List.Sums.{prefix_len_passes, prefix_len_stops}
 use Rattle.sets.proofs.Members.{has_none}
-use Rattle.std.specs.Option.{unwrap_or}
+use Rattle.std.specs.Option.{unwrap_or, option_map_or}
 use Rattle.limits.specs.Limits.{most_channels, levels, place_of}
 use Rattle.limits.proofs.Places.{place_below}
 use Rattle.sets.specs.Set.{Set, Has, is_member, Members}
@@ -23,7 +23,7 @@ use Rattle.sets.specs.Rows.{SetRow, set_at, Together}
 use Rattle.solving.specs.declared.Solution.{Solution}
 use Rattle.solving.specs.Solutions.{members_in}
 use Rattle.reaching.specs.Reach.{ReceivedAt, FirstChannel, channel_at, ReachOf}
-use Rattle.reaching.specs.inner.Working.{On, HandlesIn, first_on, ChannelsIn}
+use Rattle.reaching.specs.inner.Working.{On, HandlesIn, FirstOn, first_on, first_from, ChannelsIn}
 
 -- ---- a level's handles
 
@@ -39,63 +39,91 @@ level_members ins l every r all m = record {
 -- ---- the first channel
 
 module _ (ins : SetRow) (l o : ℕ) where
-  part : SetRow
-  part = slice_range ins (l * most_channels) (l * most_channels + most_channels)
-
   test : Set → Bool
   test s = not (is_member s o)
 
-  -- the level's part of the row, and what of it has not the handle
-  at : (c : ℕ) → c < most_channels → get_or part c 0 ≡ set_at ins (place_of l c)
-  unfolding part
-  at c fits = get_or-take _ (drop (l * most_channels) ins) c 0 (omega arith) ∙ get_or-drop (l * most_channels) ins c 0
+  -- from channel n on, all that are left
+  module _ (left n : ℕ) (all : n + left ≡ most_channels) where
+    part : SetRow
+    part = slice_range ins (place_of l n) (place_of l n + left)
 
-  before : (c : ℕ) → c < prefix_len test part → On ins l o c → ⊥
-  unfolding test
-  before c passed on =
-      let none = not-true _ (prefix_len_passes test part c 0 passed) in
-      eqb-false _ 1 none (subst⁻¹ (λ s. Has s o) (at c on.0) on.1)
+    -- that part of the row, and what of it has not the handle
+    at : (c d : ℕ) → d ≡ n + c → c < left → get_or part c 0 ≡ set_at ins (place_of l d)
+    unfolding part
+    at c d e fits =
+        let place : place_of l n + c ≡ place_of l d = omega arith in
+        get_or-take _ (drop (place_of l n) ins) c 0 (omega arith) ∙ get_or-drop (place_of l n) ins c 0 ∙ ap (set_at ins) place
 
-  past : (c : ℕ) → length part ≤ c → On ins l o c → ⊥
-  past c end on = has_none o (subst (λ s. Has s o) (get_or_past part c 0 end) (subst⁻¹ (λ s. Has s o) (at c on.0) on.1))
+    before : (d : ℕ) → n ≤ d → d < n + prefix_len test part → On ins l o d → ⊥
+    unfolding test
+    before d from passed on =
+        let none = not-true _ (prefix_len_passes test part (d - n) 0 (omega arith)) in
+        eqb-false _ 1 none (subst⁻¹ (λ s. Has s o) (at (d - n) d (omega arith) (omega (arith, on.0))) on.1)
 
-  none : length part ≤ prefix_len test part → (c : ℕ) → On ins l o c → ⊥
-  none long c on = go (dec_lt c (prefix_len test part))
-    where
-      go : Dec (c < prefix_len test part) → ⊥
-      go (yes h) = before c h on
-      go (no h) = past c (omega arith) on
+    past : (d : ℕ) → n + length part ≤ d → On ins l o d → ⊥
+    past d end on =
+        let has = subst⁻¹ (λ s. Has s o) (at (d - n) d (omega arith) (omega (arith, on.0))) on.1 in
+        has_none o (subst (λ s. Has s o) (get_or_past part (d - n) 0 (omega arith)) has)
 
-  -- a channel is the smallest that has the handle, and none says that no channel has it
-  abbrev First : Option ℕ → Type 0
-  First r = MatchOption r ((d : ℕ) → On ins l o d → ⊥) (λ c. On ins l o c × ((d : ℕ) → d < c → On ins l o d → ⊥))
+    none : length part ≤ prefix_len test part → (d : ℕ) → n ≤ d → On ins l o d → ⊥
+    none long d from on = go (dec_lt d (n + prefix_len test part))
+      where
+        go : Dec (d < n + prefix_len test part) → ⊥
+        go (yes h) = before d from h on
+        go (no h) = past d (omega arith) on
 
-  first_tells : First (first_on ins l o)
-  unfolding part test
-  first_tells = go (ltb (prefix_len test part) (length part)) refl
-    where
-      go : (b : Bool) → ltb (prefix_len test part) (length part) ≡ b → First (cond b (Some (prefix_len test part)) None)
-      go true t =
-          let within = ltb-true (prefix_len test part) (length part) t in
-          let fits : prefix_len test part < most_channels = omega (arith, length-take {A = ℕ}) in
-          let has = not-false _ (prefix_len_stops test part 0 within) in
-          ((fits, subst (λ s. Has s o) (at _ fits) (eqb-true _ 1 has)), before)
-      go false t = none (ltb-false _ _ t)
+    -- a channel is the smallest that has the handle, and none says that no channel has it
+    abbrev First : Option ℕ → Type 0
+    First r =
+        MatchOption r ((d : ℕ) → n ≤ d → On ins l o d → ⊥) (λ c. On ins l o (n + c) × ((d : ℕ) → n ≤ d → d < n + c → On ins l o d → ⊥))
+
+    first_tells : First (position (λ s. is_member s o) part)
+    unfolding part test
+    first_tells = go (ltb (prefix_len test part) (length part)) refl
+      where
+        go : (b : Bool) → ltb (prefix_len test part) (length part) ≡ b → First (cond b (Some (prefix_len test part)) None)
+        go true t =
+            let within = ltb-true (prefix_len test part) (length part) t in
+            let fits : prefix_len test part < left = omega (arith, length-take {A = ℕ}) in
+            let has = not-false _ (prefix_len_stops test part 0 within) in
+            ((omega arith, subst (λ s. Has s o) (at _ _ refl fits) (eqb-true _ 1 has)), before)
+        go false t = none (ltb-false _ _ t)
+
+    -- where those passed have not the handle, it is the first of all
+    pub first_from_lem : ((d : ℕ) → d < n → On ins l o d → ⊥) → FirstOn ins l o (first_from ins l o left n)
+    unfolding part
+    first_from_lem passed = go (position (λ s. is_member s o) part) first_tells
+      where
+        go : (r : Option ℕ) → First r → FirstOn ins l o (option_map_or (λ i. n + i) r 0)
+        go None w = record { there = λ d on. absurd (w d (let sooner : d < n → ⊥ = λ h. passed d h on in omega arith) on); nowhere = λ _. refl }
+        go (Some c) w = record {
+          there = λ d on. (
+            w.0,
+            let from : d < n → ⊥ = λ h. passed d h on in
+                let sooner : d < n + c → ⊥ = λ h. w.1 d (omega arith) h on in
+                omega arith,
+          );
+          nowhere = λ n. absurd (n _ w.0);
+        }
 
   -- so what is named, 0 for none
-  smallest : (d : ℕ) → On ins l o d → On ins l o (unwrap_or (first_on ins l o) 0) × (unwrap_or (first_on ins l o) 0 ≤ d)
-  smallest d on = go (first_on ins l o) first_tells
+  pub first_on_lem : FirstOn ins l o (unwrap_or (first_on ins l o) 0)
+  first_on_lem =
+      let start : place_of l 0 ≡ l * most_channels = omega arith in
+      let test = λ (s : Set). is_member s o in
+      subst (FirstOn ins l o) (same (first_on ins l o))
+      (subst (λ p. FirstOn ins l o (option_map_or (λ i. 0 + i) (position test (slice_range ins p (p + most_channels))) 0)) start
+      (first_from_lem most_channels 0 refl (λ d h. absurd (omega arith))))
     where
-      go : (r : Option ℕ) → First r → On ins l o (unwrap_or r 0) × (unwrap_or r 0 ≤ d)
-      go None none = absurd (none d on)
-      go (Some c) w = (w.0, let sooner : d < c → ⊥ = λ h. w.1 d h on in omega arith)
+      same : (r : Option ℕ) → option_map_or (λ i. 0 + i) r 0 ≡ unwrap_or r 0
+      same None = refl
+      same (Some c) = omega arith
+
+  smallest : (d : ℕ) → On ins l o d → On ins l o (unwrap_or (first_on ins l o) 0) × (unwrap_or (first_on ins l o) 0 ≤ d)
+  smallest = first_on_lem.there
 
   nowhere : ((d : ℕ) → On ins l o d → ⊥) → unwrap_or (first_on ins l o) 0 ≡ 0
-  nowhere none = go (first_on ins l o) first_tells
-    where
-      go : (r : Option ℕ) → First r → unwrap_or r 0 ≡ 0
-      go None _ = refl
-      go (Some c) w = absurd (none c w.0)
+  nowhere = first_on_lem.nowhere
 
 -- ---- the whole
 

@@ -1,4 +1,4 @@
--- Labels compared with those before them, label by label, each by what is left. Assumes nothing.
+-- Labels compared with those before them: byte by byte, and label by label, each by what is left. Assumes nothing.
 use Prim.Native.Nat.{ℕ, ◌+◌, ◌≤◌, ◌<◌}
 use mathlib.Core.Path.{◌≡◌, refl, sym, ap, ◌∙◌}
 use mathlib.Core.Bool.{true, false, ◌||◌, ◌&&◌}
@@ -18,6 +18,12 @@ bytes_same [] [] = refl
 bytes_same [] (y ∷ ys) = refl
 bytes_same (x ∷ xs) [] = refl
 bytes_same (x ∷ xs) (y ∷ ys) = ap (λ b. eqb x y && b) (bytes_same xs ys)
+
+-- byte by byte, where both have one
+pub bytes_at_lem : (xs ys : List ℕ) (i : ℕ) → i < length xs → i < length ys
+    → same_bytes (drop i xs) (drop i ys) ≡ (eqb (get_or xs i 0) (get_or ys i 0) && same_bytes (drop (i + 1) xs) (drop (i + 1) ys))
+unfolding same_bytes
+bytes_at_lem xs ys i h l = rw (drop-cons xs i 0 h, drop-cons ys i 0 l, add-one)
 
 -- label by label
 module _ (kind : ℕ) (bytes : List ℕ) (before : List Label) (i : ℕ) where

@@ -52,15 +52,20 @@ pad n d xs h =
 
 -- ---- a section's result tells how its reading ended
 
+-- `Says` is what the section's contract says of an outcome, by the result
+pub ended : {A R : Type 0} (Says : Outcome A → Type 0) (result : Result R Refusal)
+    → ((f : Refusal) → Says (Err f) → result ≡ Err f) → ((a : A) → Says (Ok a) → (x : R) × (result ≡ Ok x)) → (o : Outcome A) → Says o
+    → ((f : Refusal) → result ≡ Err f → o ≡ Err f) × ((x : R) → result ≡ Ok x → (a : A) × (o ≡ Ok a) × Says (Ok a))
+ended Says result bad well (Err g) w = ((λ f e. let refused = bad g w in let same : g ≡ f = cc in ap Err same), λ x e. let refused = bad g w in cc)
+ended Says result bad well (Ok a) w = ((λ f e. let read = (well a w).1 in cc), λ x e. (a, refl, w))
+
 -- `P` is what the section's contract says of what was read and the state that holds it
 module _ {A R : Type 0} (P : A → R → Type 0) where
   ended_badly : (o : Outcome A) (f : Refusal) → Holds P o (Err f) → o ≡ Err f
-  ended_badly (Err g) f w = cc
-  ended_badly (Ok a) f w = absurd w
+  ended_badly o f w = (ended (λ o. Holds P o (Err f)) (Err f) (λ g v. v) (λ a v. absurd v) o w).0 f refl
 
   ended_well : (o : Outcome A) (x : R) → Holds P o (Ok x) → (a : A) × (o ≡ Ok a) × P a x
-  ended_well (Err f) x w = cc
-  ended_well (Ok a) x w = (a, refl, w)
+  ended_well o x w = (ended (λ o. Holds P o (Ok x)) (Ok x) (λ f v. v) (λ a v. (x, refl)) o w).1 x refl
 
 -- ---- what follows the head
 

@@ -9,7 +9,7 @@ use mathlib.Core.Logic.{◌≢◌, ⊎_elim}
 use native.Mathlib.Decide.{dec_lt}
 use native.Mathlib.Omega.{arith}
 use borrow.Author.Tests.{lt-ltb}
-use lib.ListN.{length, take, replicate, length-append}
+use lib.ListN.{length, take, get_or, replicate, length-append}
 use lib.Seq.{take-append_seam}
 use Rattle.std.specs.Prelude.{Err, Ok}
 use Rattle.std.specs.List.{All, AllByRecursion as ByRecursion}
@@ -22,6 +22,7 @@ use Rattle.lines.specs.declared.Head.{Head}
 use Rattle.lines.specs.declared.label.Label.{Label}
 use Rattle.lines.specs.Labels.{channel_kind, level_kind, bytes_of_label, place_among}
 use Rattle.lines.specs.Values.{padded, no_label}
+use Rattle.lines.proofs.Padded.{padded_length}
 use Rattle.putting.specs.Characters.{text}
 use Rattle.putting.specs.Put.{Put}
 use Rattle.reading.specs.declared.Reading.{Reading}
@@ -45,7 +46,7 @@ use Rattle.sheet.specs.Write.{longest_sheet, IsWhole}
 use Rattle.sheet.proofs.Writing.{OneSheet, OneWritten, OneWhole, one_written, one_whole, whole_put}
 use Rattle.word_sheet.specs.WordSheet.{decimal, is_of, label_for, name_by, level_name, channel_name, breach_line, word_sheet_of, longest_words, labels_of, WordSheetFor}
 use Rattle.word_sheet.specs.inner.Compute.{word_sheet_for}
-use Rattle.word_sheet.specs.inner.Working.{HasBytes, TwoDigits, BreachTwoDigits, VerdictTwoDigits, PutName}
+use Rattle.word_sheet.specs.inner.Working.{HasBytes, Listed, TwoDigits, BreachTwoDigits, VerdictTwoDigits, PutName}
 use Rattle.word_sheet.proofs.Naming.{one_digit, two_digits, name_most, name_then}
 
 -- ---- the labels of a reading
@@ -56,14 +57,30 @@ within_bytes h least before [] w = tt
 within_bytes h least before (label ∷ labels) w =
     (record { some = w.0.some }, within_bytes h (place_among label.kind label.number + 1) _ labels w.2)
 
+-- those of a plan, in an array
+pub padded_listed : (h : Head) (least : ℕ) (before labels : List Label) → LabelsWithin h least before labels → length labels ≤ most_labels
+    → Listed (padded most_labels no_label labels) (length labels)
+unfolding padded
+padded_listed h least before labels within most =
+    let blank = replicate (most_labels - length labels) no_label in
+    record {
+      sized = padded_length most_labels no_label labels most;
+      counted = most;
+      fit = λ i d l. (get_or (padded most_labels no_label labels) i d).sized;
+      have_bytes = All-same HasBytes _ _ (take-append_seam labels blank) (All-from_recursion HasBytes labels (within_bytes h least before labels within));
+    }
+
 -- those of a text, by what is read of it
 module _ (plan : List ℕ) (r : Reading) (e : r ≡ reading_of (plan_in plan)) where
-  pub read_few : r.labelled ≤ most_labels
-  read_few = subst⁻¹ (λ s. s.labelled ≤ most_labels) e (go (plan_in plan) (kept plan))
+  pub read_listed : Listed r.labels r.labelled
+  read_listed = subst⁻¹ (λ s. Listed s.labels s.labelled) e (go (plan_in plan) (kept plan))
     where
-      go : (o : Outcome Plan) → Kept o → (reading_of o).labelled ≤ most_labels
-      go (Err f) k = omega arith
-      go (Ok p) k = k.labelled
+      go : (o : Outcome Plan) → Kept o → Listed (reading_of o).labels (reading_of o).labelled
+      go (Err f) k = record { sized = refl; counted = omega arith; fit = λ i d l. absurd (omega arith); have_bytes = All-nil HasBytes }
+      go (Ok p) k = padded_listed p.head 0 [] p.labels k.labels k.labelled
+
+  pub read_few : r.labelled ≤ most_labels
+  read_few = read_listed.counted
 
   pub read_labels_lem : take r.labelled r.labels ≡ labels_of (plan_in plan)
   unfolding padded
@@ -74,11 +91,7 @@ module _ (plan : List ℕ) (r : Reading) (e : r ≡ reading_of (plan_in plan)) w
       go (Ok p) = take-append_seam p.labels (replicate (most_labels - length p.labels) no_label)
 
   pub read_bytes : All HasBytes (take r.labelled r.labels)
-  read_bytes = All-same HasBytes _ _ read_labels_lem (go (plan_in plan) (kept plan))
-    where
-      go : (o : Outcome Plan) → Kept o → All HasBytes (labels_of o)
-      go (Err f) k = All-nil HasBytes
-      go (Ok p) k = All-from_recursion HasBytes p.labels (within_bytes p.head 0 [] p.labels k.labels)
+  read_bytes = read_listed.have_bytes
 
 -- ---- the numbers of a breach
 

@@ -1,7 +1,8 @@
--- For the contracts of the code's inner functions alone: labels that have bytes, numbers of two digits, and a name that is put behind other characters.
+-- For the contracts of the code's inner functions alone: labels that have bytes, labels in an array, numbers of two digits, and a name that is put behind
+-- other characters.
 -- Assumes nothing.
-use Rattle.std.specs.Prelude.{ℕ, ◌+◌, ◌<◌, ◌≤◌, List, ◌++◌, length}
-use Rattle.limits.specs.Limits.{longest_short}
+use Rattle.std.specs.Prelude.{ℕ, ◌+◌, ◌<◌, ◌≤◌, ◌≡◌, List, ◌++◌, length, take, get_or, All}
+use Rattle.limits.specs.Limits.{most_labels, longest_short}
 use Rattle.lines.specs.declared.label.Label.{Label}
 use Rattle.putting.specs.Put.{Put}
 use Rattle.judging.specs.declared.Breach.{Breach}
@@ -13,6 +14,17 @@ use Rattle.judging.specs.declared.Verdict.TheVariants.{Unjudged, Yes, No}
 -- a label has bytes
 pub record HasBytes (label : Label) : Type 0 where
   pub some : 1 ≤ label.size
+
+-- the bytes of a label stand in its array
+abbrev pub Fits : Label → Type 0
+Fits label = label.size ≤ length label.bytes
+
+-- an array of labels, of which the first `count` are used: each fits, and has bytes
+pub record Listed (labels : List Label) (count : ℕ) : Type 0 where
+  pub sized : length labels ≡ most_labels
+  pub counted : count ≤ most_labels
+  pub fit : (i : ℕ) (d : Label) → i < count → Fits (get_or labels i d)
+  pub have_bytes : All HasBytes (take count labels)
 
 -- ---- numbers
 
