@@ -13,7 +13,7 @@ use Rattle.std.proofs.lemmas.List.{get_or-take, get_or-drop, length-take, length
 use Rattle.limits.specs.Limits.{most_channels, most_binders, most_depth, outermost, levels, place_of, level_sets}
 use Rattle.limits.proofs.Places.{place_below, level_of, channel_of, place_back}
 use Rattle.sets.specs.Set.{none, Has}
-use Rattle.sets.specs.Rows.{SetRow, empty_row, set_at, HasAt}
+use Rattle.sets.specs.Rows.{SetRow, empty_row, set_at, HasAt, Copied}
 use Rattle.sets.proofs.Members.{same_members}
 use Rattle.sets.proofs.SameRows.{none_at, same_row, empty_length}
 use Rattle.lines.specs.declared.Node.{Node}
@@ -100,6 +100,13 @@ row_copied w n start t l c u l_fits c_fits =
     let at : start + (l * w + c) ≡ start + l * w + c = omega arith in
     let e = part_at t start (n * w) (l * w + c) (omega (arith, place_below w n l c l_fits c_fits)) ∙ ap (set_at t) at in
     (subst (λ s. Has s u) e, subst⁻¹ (λ s. Has s u) e)
+
+-- what is copied out is that part
+pub copied_part : (row t : SetRow) (start n : ℕ) (r : SetRow) → length row ≡ n → start + n ≤ length t → Copied row t start r
+    → r ≡ take n (drop start t)
+copied_part row t start n r long fits c =
+    let sized : length r ≡ length (take n (drop start t)) = omega (arith, c.sized, length-take {A = ℕ}, length-drop {A = ℕ}) in
+    same_row r (take n (drop start t)) sized (λ i l. c.copies i (omega (arith, c.sized)) ∙ sym (part_at t start n i (omega (arith, c.sized))))
 
 abbrev parts : SetRow → Solution
 parts t = record { binders = take most_binders t; ins = take level_sets (drop ins_start t); outs = take level_sets (drop outs_start t) }

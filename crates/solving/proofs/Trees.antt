@@ -130,3 +130,15 @@ level_inside h (Restriction x c) l w v = v
 level_inside h (Match x y) l w v = v
 level_inside h Replication l w v = v
 level_inside h (Bracket m) l w v = inl w
+
+pub few_branches : (n : Node) → branch_count n ≤ 2
+few_branches Nil = omega arith
+few_branches Silent = omega arith
+few_branches (Send x y) = omega arith
+few_branches (Receive x y b) = omega arith
+few_branches Sum = omega arith
+few_branches Parallel = omega arith
+few_branches (Restriction x c) = omega arith
+few_branches (Match x y) = omega arith
+few_branches Replication = omega arith
+few_branches (Bracket m) = omega arith

@@ -31,7 +31,7 @@ pub(crate) fn settle(
     let mut table = empty();
     for count in 1..=allowance {
         let next = round(nodes, offers, &table);
-        if next == table {
+        if sets::rows::same(&next, &table) {
             return Some((count, solution_of(&table)));
         }
         table = next;

@@ -92,8 +92,8 @@ pub(crate) fn solution_of(table: &Table) -> Solution
     ensures { Unpacked table.now result }
 {
     let mut solution = Solution::empty();
-    solution.binders.copy_from_slice(&table[..INS]);
-    solution.ins.copy_from_slice(&table[INS..OUTS]);
-    solution.outs.copy_from_slice(&table[OUTS..]);
+    sets::rows::copy(&mut solution.binders, table, 0);
+    sets::rows::copy(&mut solution.ins, table, INS);
+    sets::rows::copy(&mut solution.outs, table, OUTS);
     solution
 }
