@@ -31,7 +31,7 @@ extern "C" {
    (hjaltropa_sheet), 188,583 (hjaltropa_reach) and 208,151 (hjaltropa_words) with the library optimised for x86-64, as the toolchain compiles
    it; the rest is margin. What the caller's own functions take comes on top. The main thread and most others have more than that; a thread that
    is given a small stack has to be given so much. */
-#define HJALTROPA_STACK 294912
+#define HJALTROPA_STACK 278528
 
 /* The length of the sheet of a text, within an allowance of rounds. Where the buffer is as long or longer, the sheet stands at its start
    and nothing past it is changed; where it is shorter, nothing of it is changed. Any text, allowance and length will do; the pointers are

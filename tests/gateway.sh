@@ -855,7 +855,7 @@ for function in sheet reach words; do
         fail "the header says that the deepest call took '$stated' bytes of stack for the $function, and here it took '$measured'"
 
     # A wrong byte or length in one call of many, the first or last byte, early and late; wrong bytes only where calls meet; and more stack,
-    # which HJALTROPA_STACK still holds, but without the margin. Alone, a plan is asked just as often as threads.c says.
+    # over which HJALTROPA_STACK has no margin. Alone, a plan is asked just as often as threads.c says.
     threads_find none '' P2
     threads_find none '' "$some"
     for fault in first last less; do
@@ -863,7 +863,7 @@ for function in sheet reach words; do
     done
     threads_find crowd '' P2
     threads_find crowd 'a plan had another sheet while others were asked' "$some"
-    for fault in stack60000 stack64000; do
+    for fault in stack50000 stack100000; do
         threads_find $fault 'HJALTROPA_STACK leaves no margin over that' "$some"
     done
     threads_find byte '' P2

@@ -9,12 +9,14 @@ definitions() {
 
 frames=$(definitions Frames.antt)
 if [ -f "$frames" ]; then
-    # A row has one number of bytes, or is between two, of which the second may be so many more than the longest label has. A node's is of the tree.
+    # A row has one number of bytes, or is between two, of which the second may be so many more than the longest label has. A node's is of
+    # the section that `node` says.
     label=$(sed -n 's/^longest_label = \([0-9][0-9]*\)$/\1/p' "$(definitions Limits.antt)")
-    sed "s/(3 + longest_label)/$((3 + label))/" "$frames" | sed -n '
+    tree=$(sed -n 's/^node first kind size = between first \([A-Za-z]*\) (Some kind) size size$/\1/p' "$frames")
+    sed "s/(3 + longest_label)/$((3 + label))/; s/\(node 0x.*[0-9]\) *$/\1 $tree/" "$frames" | sed -n '
         s/.*row 0x\([0-9a-f][0-9a-f]\) \([A-Za-z]*\) \([0-9][0-9]*\) *$/\1 \3 \2/p
         s/.*between 0x\([0-9a-f][0-9a-f]\) \([A-Za-z]*\) None \([0-9][0-9]*\) \([0-9][0-9]*\) *$/\1 \3 to \4 \2/p
-        s/.*node 0x\([0-9a-f][0-9a-f]\) [A-Za-z]* \([0-9][0-9]*\) *$/\1 \2 TreeLines/p' |
+        s/.*node 0x\([0-9a-f][0-9a-f]\) [A-Za-z]* \([0-9][0-9]*\) \([A-Za-z]*\)$/\1 \2 \3/p' |
         sed 's/FirstLine$/head/; s/FreeNames$/free names/; s/OfferLines$/offers/; s/LabelLines$/labels/; s/TreeLines$/tree/' >"$work/frames"
     section docs/PLAN.md '## The frames' |
         sed -n 's/^| `\([0-9a-f][0-9a-f]\)` | \([0-9][0-9]*\( to [0-9][0-9]*\)*\) | [^|]* | \([a-z ]*\) |.*/\1 \2 \4/p' >"$work/rows"
